@@ -1,0 +1,11 @@
+pub mod Curves
+pub mod Stretches
+pub mod Covers
+pub mod Shape
+pub mod Keeps
+pub mod Views
+pub mod Plan
+pub mod Lines
+pub mod Parsed
+pub mod Drafts
+pub mod Texts

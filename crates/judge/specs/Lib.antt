@@ -1,0 +1,4 @@
+pub mod Refusals
+pub mod Papers
+pub mod Sums
+pub mod Outcomes

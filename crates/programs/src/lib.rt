@@ -1,0 +1,2 @@
+// What each program does, from the texts that it reads to the bytes that it writes.
+pub mod quote;

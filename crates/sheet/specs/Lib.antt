@@ -1,0 +1,4 @@
+pub mod Rows
+pub mod Kind
+pub mod Parts
+pub mod Kinds
