@@ -1,1 +1,3 @@
-mod WriteLaws
+pub mod WriteLaws
+pub mod WroteLaws
+pub mod JudgeLaws

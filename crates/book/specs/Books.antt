@@ -4,6 +4,7 @@ use mathlib.Core.Bool.{Bool, true, false, cond}
 use mathlib.Core.List.{List}
 use Prim.Native.Nat.{ℕ, _+_, _<_, _≤_}
 use lib.Dec.{eqb}
+use lib.IntN.{ℤ}
 use lib.ListN.{length}
 use Rattle.std.specs.Options.{isSome}
 use Rattle.std.specs.Results.{isOk}
@@ -22,7 +23,11 @@ use Rattle.book.specs.declared.fault.BookFault.the-variants.{EditsExhausted, N
 use Rattle.book.specs.declared.goal.Goal.{Goal}
 use Rattle.book.specs.declared.verdict.Verdict.{Verdict}
 use Rattle.book.specs.Places.{isPlaceOf}
+use Rattle.text.specs.declared.fault.Fault.{Fault}
+use Rattle.text.specs.Continue.{KeptOk}
 use Rattle.text.specs.Written.{answer, filled}
+use Rattle.judge.specs.declared.fault.JudgeFault.the-variants.{Reading as Paper}
+use Rattle.book.specs.Goals.{GoalPlan, readAim}
 use Rattle.book.specs.Written.{told}
 use Rattle.book.specs.Writing.{quotesText}
 use Rattle.book.specs.Quotes.{standing, noQuotes, quoteAt, lowered, smaller}
@@ -62,6 +67,24 @@ NotOpened b text MemoryTooShort = ⊥
 abbrev pub OpenOutcome : Book → List ℕ → Result Bool BookFault → Book → Type 0
 OpenOutcome b text (Ok kept) c = Opened b text kept c
 OpenOutcome b text (Err f) c = NotOpened b text f × (c ≡ b)
+
+-- ---- judge
+
+-- a verdict on a goal at a number with a claim, given after so many edits
+pub record About (v : Verdict) (p : GoalPlan) (edits : ℕ) : Type 0 where
+  pub goal : v .goal ≡ p .goal
+  pub at : v .at ≡ p .at
+  pub claim : v .claim ≡ p .claim
+  pub counted : v .edits ≡ edits
+
+abbrev pub VerdictTold : ℕ → Result GoalPlan Fault → Result Verdict BookFault → List ℤ → List ℤ → Type 0
+VerdictTold edits (Ok p) r before after = KeptOk (λ v. About v p edits) r
+VerdictTold edits (Err f) r before after = (r ≡ Err (Judging (Paper f))) × (after ≡ before)
+
+-- without a chain nothing is judged; else the verdict is about what the paper's goal line says
+abbrev pub JudgeOutcome : Option Chain → ℕ → List ℕ → Result Verdict BookFault → List ℤ → List ℤ → Type 0
+JudgeOutcome None edits paper r before after = (r ≡ Err NoChain) × (after ≡ before)
+JudgeOutcome (Some c) edits paper r before after = VerdictTold edits (readAim (length (relaysOf c)) paper) r before after
 
 -- ---- enter
 

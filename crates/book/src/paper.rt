@@ -4,7 +4,7 @@ ghost use Prim.Native.Nat.{_≤_, _<_};
 ghost use lib.ListN.{length};
 ghost use Rattle.chain.specs.Views.{relaysOf};
 ghost use Rattle.text.specs.Continue.{KeptOk, okAs};
-ghost use Rattle.book.specs.Goals.{goalNames, goalAt, claimIn, claimPlan, goalLine, goalPlan, readAim, heldOne, afterTwo};
+ghost use Rattle.book.specs.Goals.{goalNames, goalAt, claimIn, claimPlan, goalLine, goalPlan, readAim, heldOne, afterTwo, AimTold};
 ghost use Rattle.book.specs.Places.{isPlaceOf};
 use crate::aim::Aim;
 use crate::goal::Goal;
@@ -112,7 +112,9 @@ fn after_two<'a>(paper: &'a [u8]) -> Result<&'a [u8], Fault>
 }
 
 // Judges a paper against the sheet that its goal line names, and answers what it shows.
-pub fn judge_paper(chain: &Chain, paper: &[u8], sums: &mut [i64]) -> Result<Aim, JudgeFault> {
+pub fn judge_paper(chain: &Chain, paper: &[u8], sums: &mut [i64]) -> Result<Aim, JudgeFault>
+    ensures { λ r. ⌜ AimTold (readAim (length (relaysOf (now (chain .entry)))) (now (paper .entry))) r (now (sums .entry)) (now (sums .exit)) ⌝ }
+{
     let aim = read_aim(chain, paper)?;
     let rest = after_two(paper)?;
     match aim.goal {

@@ -6,7 +6,7 @@ use Rattle.chain.specs.declared.line.ArrivalLine.{ArrivalLine}
 use Rattle.chain.specs.declared.line.ServiceLine.{ServiceLine}
 use Rattle.chain.specs.declared.stream.Relay.{Relay}
 use Rattle.chain.specs.declared.stream.Stream.{Stream}
-use Rattle.chain.specs.Curves.{arrivalLines, serviceLines}
+use Rattle.chain.specs.Curves.{linesOf}
 
 -- a stream's line covers one with burst and rate no smaller
 abbrev pub arrivalCovers : ArrivalLine → ArrivalLine → Bool
@@ -30,12 +30,12 @@ module _ {L : Type 0} (covering : L → L → Bool) where
   coverBoth xs ys = eachCovered xs ys && eachCovered ys xs
 
 abbrev pub sameRelay : Relay → Relay → Bool
-sameRelay a b = coverBoth serviceCovers (serviceLines (a .curve)) (serviceLines (b .curve))
+sameRelay a b = coverBoth serviceCovers (linesOf (a .curve)) (linesOf (b .curve))
 
 abbrev pub sameStream : Stream → Stream → Bool
 sameStream a b =
     (eqb (a .stretch .from) (b .stretch .from) && eqb (a .stretch .to) (b .stretch .to))
-    && coverBoth arrivalCovers (arrivalLines (a .curve)) (arrivalLines (b .curve))
+    && coverBoth arrivalCovers (linesOf (a .curve)) (linesOf (b .curve))
 
 -- as many of the one as of the other, each the same as its counterpart
 abbrev pub allAlike : {T : Type 0} → (T → T → Bool) → List T → List T → Bool

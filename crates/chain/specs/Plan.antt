@@ -2,13 +2,12 @@
 use mathlib.Core.List.{List, map}
 use Prim.Native.Nat.{ℕ}
 use Rattle.chain.specs.declared.chain.Chain.{Chain}
-use Rattle.chain.specs.declared.curve.ArrivalCurve.{ArrivalCurve}
-use Rattle.chain.specs.declared.curve.ServiceCurve.{ServiceCurve}
+use Rattle.chain.specs.declared.curve.Curve.{Curve}
 use Rattle.chain.specs.declared.line.ArrivalLine.{ArrivalLine}
 use Rattle.chain.specs.declared.line.ServiceLine.{ServiceLine}
 use Rattle.chain.specs.declared.stream.Relay.{Relay}
 use Rattle.chain.specs.declared.stream.Stream.{Stream}
-use Rattle.chain.specs.Curves.{arrivalLines, serviceLines}
+use Rattle.chain.specs.Curves.{linesOf}
 use Rattle.chain.specs.Views.{relaysOf, streamsOf}
 
 -- a line of a stream's curve
@@ -36,11 +35,11 @@ sends l = record { burst = l .burst; rate = l .rate }
 abbrev pub serves : ServiceLine → Serves
 serves l = record { rate = l .rate; hold = l .hold }
 
-abbrev pub servicePlan : ServiceCurve → List Serves
-servicePlan c = map serves (serviceLines c)
+abbrev pub servicePlan : Curve ServiceLine → List Serves
+servicePlan c = map serves (linesOf c)
 
-abbrev pub arrivalPlan : ArrivalCurve → List Sends
-arrivalPlan c = map sends (arrivalLines c)
+abbrev pub arrivalPlan : Curve ArrivalLine → List Sends
+arrivalPlan c = map sends (linesOf c)
 
 abbrev pub relayPlan : Relay → List Serves
 relayPlan r = servicePlan (r .curve)

@@ -4,26 +4,29 @@ ghost use Prim.Native.Nat.{_≤_};
 ghost use lib.ListN.{length};
 use crate::line::ArrivalLine;
 use crate::line::ServiceLine;
+use std::alloc::AllocError;
 
-pub mod arrival;
-pub mod service;
+pub mod lines;
 
-// What may enter: the least of burst + rate × d over its lines (an arrival curve).
-#[derive(Clone, Copy)]
-pub struct ArrivalCurve {
-    places: [ArrivalLine; 4],
+// The lines stand at the front of `places`.
+pub struct Curve<L> {
+    places: [L; 4],
     count: usize,
     ghost four: { length places ≡ 4 },
     ghost some: { 1 ≤ count },
     ghost few: { count ≤ 4 },
 }
 
+// What may enter: the least of burst + rate × d over its lines (an arrival curve).
+pub type ArrivalCurve = Curve<ArrivalLine>;
+
 // What leaves a relay that works: the greatest of rate × d − hold over its lines (a strict service curve).
-#[derive(Clone, Copy)]
-pub struct ServiceCurve {
-    places: [ServiceLine; 4],
-    count: usize,
-    ghost four: { length places ≡ 4 },
-    ghost some: { 1 ≤ count },
-    ghost few: { count ≤ 4 },
+pub type ServiceCurve = Curve<ServiceLine>;
+
+impl<L: Copy> Copy for Curve<L> {}
+
+pub impl<L: Copy> Clone for Curve<L> as CurveClone {
+    fn clone(&self) -> Result<Curve<L>, AllocError> {
+        Ok(*self)
+    }
 }

@@ -1,5 +1,6 @@
 // Relays and streams.
 use crate::curve::ArrivalCurve;
+use crate::curve::CurveClone;
 use crate::curve::ServiceCurve;
 use crate::stretch::Stretch;
 

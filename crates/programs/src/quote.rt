@@ -1,5 +1,5 @@
 // The program `quote`: a chain and a paper in, the quotes or a refusal out.
-ghost use Rattle.programs.specs.Wrote.{Wrote};
+ghost use Rattle.book.specs.Written.{Wrote};
 use book::book::Book;
 use book::fault::BookFault;
 use book::write::write_refusal;

@@ -9,7 +9,7 @@ use lib.Dec.{leb}
 use lib.ListN.{length, getD, drop}
 use Rattle.std.proofs.shelf.Lists.{at-drop-more, at-drop-all}
 use Rattle.std.proofs.shelf.Tests.{le-leb}
-use Rattle.chain.specs.Curves.{arrivalLines, serviceLines}
+use Rattle.chain.specs.Curves.{linesOf}
 use Rattle.chain.specs.Shape.{hops}
 use Rattle.chain.specs.declared.stream.Relay.{Relay}
 use Rattle.chain.specs.declared.stream.Stream.{Stream}
@@ -49,9 +49,9 @@ pub stream-rows-all : (last : ℕ) (ss : List Stream) (i : ℕ) → length ss �
 stream-rows-all last ss i h = at-drop-all (streamsRows last) ss i h
 
 pub relay-rows-more :
-    (rs : List Relay) (i : ℕ) (r : Relay) (n : ℕ) → i < length rs → r ≡ getD rs i r → n ≡ length (serviceLines (r .curve))
+    (rs : List Relay) (i : ℕ) (r : Relay) (n : ℕ) → i < length rs → r ≡ getD rs i r → n ≡ length (linesOf (r .curve))
     → relaysRows (drop i rs) ≡ n + relaysRows (drop (i + 1) rs)
-relay-rows-more rs i r n h e q = sum-more (λ x. length (serviceLines (x .curve))) relaysRows (λ x xs. refl) rs i r n h e q
+relay-rows-more rs i r n h e q = sum-more (λ x. length (linesOf (x .curve))) relaysRows (λ x xs. refl) rs i r n h e q
 
 pub relay-rows-all : (rs : List Relay) (i : ℕ) → length rs ≤ i → relaysRows (drop i rs) ≡ 0
 relay-rows-all rs i h = at-drop-all relaysRows rs i h
@@ -65,11 +65,11 @@ kept-values s last kept e =
     let t : leb (s .from) last ≡ true = le-leb _ _ (e .begins) in
     ap (λ k. 2 * (k + 1)) (kept-hops s last kept e) ∙ ap (λ b. cond b (2 * (keptHops last s + 1)) 0) (sym t)
 
-pub kept-rows : (s : Stream) (last : ℕ) (kept : Stretch) (m : ℕ) → Cut (s .stretch) last kept → m ≡ length (arrivalLines (s .curve)) → rowsOf (hops kept) m ≡ streamRows last s
+pub kept-rows : (s : Stream) (last : ℕ) (kept : Stretch) (m : ℕ) → Cut (s .stretch) last kept → m ≡ length (linesOf (s .curve)) → rowsOf (hops kept) m ≡ streamRows last s
 kept-rows s last kept m e q =
     let t : leb (s .stretch .from) last ≡ true = le-leb _ _ (e .begins) in
     ap (λ k. rowsOf k m) (kept-hops (s .stretch) last kept e) ∙ ap (rowsOf (keptHops last (s .stretch))) q
-    ∙ ap (λ b. cond b (rowsOf (keptHops last (s .stretch)) (length (arrivalLines (s .curve)))) 0) (sym t)
+    ∙ ap (λ b. cond b (rowsOf (keptHops last (s .stretch)) (length (linesOf (s .curve)))) 0) (sym t)
 
 pub width-few : (last : ℕ) (s : Stream) → widthOf last (s .stretch) ≤ 18
 width-few last s =

@@ -8,7 +8,7 @@ use lib.ListN.{length}
 use Rattle.std.specs.Options.{valueOr}
 use Rattle.std.specs.declared.option.Option.{Option}
 use Rattle.std.specs.declared.option.Option.the-variants.{Some, None}
-use Rattle.chain.specs.Curves.{arrivalLines}
+use Rattle.chain.specs.Curves.{linesOf}
 use Rattle.chain.specs.Shape.{next, crosses}
 use Rattle.chain.specs.Views.{relaysOf, streamsOf}
 use Rattle.chain.specs.declared.chain.Chain.{Chain}
@@ -22,7 +22,7 @@ use Rattle.sheet.specs.Parts.{keptHops, partRows, partUnknowns, widthOf}
 -- how many lines the stop stream, the first, has
 abbrev pub stopLines : List Stream → ℕ
 stopLines [] = 0
-stopLines (s ∷ ss) = length (arrivalLines (s .curve))
+stopLines (s ∷ ss) = length (linesOf (s .curve))
 
 -- the rows of the chain, five around the tick, and one for each node and line of the stop stream
 abbrev pub delayRows : Chain → ℕ

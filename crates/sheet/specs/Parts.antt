@@ -5,7 +5,7 @@ use mathlib.Core.List.{List, [], _∷_}
 use Prim.Native.Nat.{ℕ, _+_, _-_, _*_, _/_, _≤_, min}
 use lib.Dec.{leb}
 use lib.ListN.{length, take}
-use Rattle.chain.specs.Curves.{arrivalLines, serviceLines}
+use Rattle.chain.specs.Curves.{linesOf}
 use Rattle.chain.specs.Shape.{next, hops}
 use Rattle.chain.specs.Views.{relaysOf, streamsOf}
 use Rattle.chain.specs.declared.chain.Chain.{Chain}
@@ -49,7 +49,7 @@ abbrev pub rowsOf : ℕ → ℕ → ℕ
 rowsOf k m = 1 + (k + 1) + k + k + m * pairsOf k
 
 abbrev pub streamRows : ℕ → Stream → ℕ
-streamRows last s = cond (leb (s .stretch .from) last) (rowsOf (keptHops last (s .stretch)) (length (arrivalLines (s .curve)))) 0
+streamRows last s = cond (leb (s .stretch .from) last) (rowsOf (keptHops last (s .stretch)) (length (linesOf (s .curve)))) 0
 
 abbrev pub streamsRows : ℕ → List Stream → ℕ
 streamsRows last [] = 0
@@ -58,7 +58,7 @@ streamsRows last (s ∷ ss) = streamRows last s + streamsRows last ss
 -- a row for each line of each relay
 abbrev pub relaysRows : List Relay → ℕ
 relaysRows [] = 0
-relaysRows (r ∷ rs) = length (serviceLines (r .curve)) + relaysRows rs
+relaysRows (r ∷ rs) = length (linesOf (r .curve)) + relaysRows rs
 
 -- the dates never fall, the relays serve, and the rows of each stream
 abbrev pub partRows : Chain → ℕ → ℕ

@@ -1,6 +1,10 @@
 // Writing quotes and rows into lent memory.
 ghost use mathlib.Core.Path.{_≡_};
+ghost use Rattle.std.specs.declared.option.Option.the-variants.{None};
+ghost use Rattle.std.specs.declared.result.Result.the-variants.{Err};
+ghost use Rattle.book.specs.declared.fault.BookFault.the-variants.{NoChain};
 ghost use Rattle.book.specs.Books.{quotesAnswer, quotesLeave};
+ghost use Rattle.book.specs.Written.{Wrote};
 use crate::book::Book;
 use crate::fault::BookFault;
 use crate::fault::BookFaultFromShort;

@@ -1,8 +1,8 @@
 use mathlib.Core.Path.{subst}
 use Rattle.text.specs.Written.{refusalText}
 use Rattle.book.specs.Refusals.{bookRefusal}
-use Rattle.programs.specs.Wrote.{Wrote}
-use Rattle.programs.proofs.WroteLaws.{wrote-text, wrote-is}
+use Rattle.book.specs.Written.{Wrote}
+use Rattle.book.proofs.WroteLaws.{wrote-text, wrote-is}
 use Rattle.programs.proofs.quote.answer.Needs as need
 
 pub returns-in-Err : need.returns-in-Err

@@ -2,7 +2,7 @@ use Rattle.std.specs.Options.{isSome}
 use Rattle.book.specs.declared.fault.BookFault.the-variants.{NoChain}
 use Rattle.book.specs.Quotes.{standing}
 use Rattle.book.specs.Writing.{quotesText}
-use Rattle.programs.proofs.WroteLaws.{wrote-if, wrote-is}
+use Rattle.book.proofs.WroteLaws.{wrote-if, wrote-is}
 use Rattle.programs.proofs.quote.write_quotes.Needs as need
 
 pub returns : need.returns

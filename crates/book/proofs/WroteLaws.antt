@@ -11,9 +11,8 @@ use Rattle.std.specs.declared.result.Result.{Result}
 use Rattle.std.specs.declared.result.Result.the-variants.{Ok, Err}
 use Rattle.std.proofs.shelf.Lists.{drop-at}
 use Rattle.text.specs.Written.{answer, filled}
 use Rattle.book.specs.declared.fault.BookFault.{BookFault}
-use Rattle.book.specs.Written.{told}
-use Rattle.programs.specs.Wrote.{Wrote}
+use Rattle.book.specs.Written.{told, Wrote}
 
 pub wrote-text : (w m : List ℕ) → Wrote m (told (answer w m)) (filled w m)
 wrote-text w m = go (leb (length w) (length m)) refl
