@@ -20,8 +20,8 @@ same-fault : (f : JudgeFault) (g : Fault) → _≡_ {A = Result Aim JudgeFault} 
 same-fault f g e = cc
 
 pub refused-told :
-  (edits : ℕ) (s : Result GoalPlan Fault) (r : Result Verdict BookFault) (f : JudgeFault) (before after : List ℤ)
-  → ErrBy r (λ e. e ≡ Judging f) → AimTold s (Err f) before after → VerdictTold edits s r before after
+    (edits : ℕ) (s : Result GoalPlan Fault) (r : Result Verdict BookFault) (f : JudgeFault) (before after : List ℤ)
+    → ErrBy r (λ e. e ≡ Judging f) → AimTold s (Err f) before after → VerdictTold edits s r before after
 refused-told edits (Ok p) (Ok v) f before after h t = absurd h
 refused-told edits (Ok p) (Err e) f before after h t = tt
 refused-told edits (Err g) (Ok v) f before after h t = absurd h

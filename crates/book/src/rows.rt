@@ -1,5 +1,4 @@
 // The text of a row of any sheet.
-ghost use Prim.Native.Nat.{_≤_};
 use crate::write::add_term_line;
 use sheet::row::Row;
 use sheet::sheet::Sheet;

@@ -58,6 +58,15 @@ pub fn add_term_line(page: &mut Page, row: u32, unknown: u32, times: i64)
     page.add(b"\n");
 }
 
+// Copies a page to the start of lent memory and answers its length.
+pub fn put_page(page: &Page, out: &mut [u8]) -> Result<usize, BookFault>
+    ensures answer { λ r. ⌜ r ≡ told (answer (onPage (now (page .entry))) (now (out .entry))) ⌝ }
+    ensures after { λ _. ⌜ now (out .exit) ≡ filled (onPage (now (page .entry))) (now (out .entry)) ⌝ }
+{
+    let length = page.put(out)?;
+    Ok(length)
+}
+
 // Writes a line of names and the refusal of a fault: its number and two values.
 pub fn write_refusal(fault: BookFault, out: &mut [u8]) -> Result<usize, BookFault>
     ensures answer { λ r. ⌜ r ≡ told (answer (refusalText (bookRefusal fault)) (now (out .entry))) ⌝ }

@@ -1,8 +1,6 @@
 // The table of a chain's streams, in the order of their numbers.
 ghost use mathlib.Core.Path.{_≡_};
-ghost use lib.ListN.{length};
-ghost use Rattle.std.specs.Of.Vec.{vec-items, vec-len};
-use crate::curve::ArrivalCurve;
+ghost use Rattle.std.specs.Of.Vec.{vec-items};
 use crate::stream::Stream;
 
 #[derive(Drop)]

@@ -1,11 +1,9 @@
 // Checks the lines of a paper before any of them is weighed.
 ghost use mathlib.Core.Path.{_≡_};
-ghost use Prim.Native.Nat.{_+_, _<_, _≤_, _^_};
+ghost use Prim.Native.Nat.{_+_, _<_, _^_};
 ghost use denote.Ref.{now};
 ghost use lib.ListN.{length};
-ghost use Rattle.text.specs.Continue.{okAs};
 ghost use Rattle.judge.specs.Papers.{Checking, checkLines, entryStep};
-use crate::entry::Entry;
 use crate::line::entry_of;
 use sheet::sheet::Sheet;
 use text::fault::Fault;

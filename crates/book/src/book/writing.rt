@@ -7,10 +7,10 @@ ghost use Rattle.book.specs.Books.{quotesAnswer, quotesLeave};
 ghost use Rattle.book.specs.Written.{Wrote};
 use crate::book::Book;
 use crate::fault::BookFault;
-use crate::fault::BookFaultFromShort;
 use crate::goal::Goal;
 use crate::paper::has_place;
 use crate::rows::row_page;
+use crate::write::put_page;
 use crate::write::quotes_page;
 use chain::chain::Chain;
 use sheet::backlog::BacklogSheet;
@@ -39,8 +39,7 @@ impl Book {
         if self.chain.is_none() {
             return Err(BookFault::NoChain);
         }
-        let length = quotes_page(&self.quotes).put(out)?;
-        Ok(length)
+        put_page(&quotes_page(&self.quotes), out)
     }
 
     // Writes a row of the sheet of a goal, or at 0 the names above rows, and answers the length of the text.
@@ -51,14 +50,16 @@ impl Book {
         place: u32,
         row: u32,
         out: &mut [u8],
-    ) -> Result<usize, BookFault> {
+    ) -> Result<usize, BookFault>
+        ensures chain { λ r. ⌜ (now (self .entry) .chain ≡ None → r ≡ Err NoChain) ⌝ }
+        ensures wrote { λ r. ⌜ Wrote (now (out .entry)) r (now (out .exit)) ⌝ }
+    {
         let Some(chain) = &self.chain else {
             return Err(BookFault::NoChain);
         };
         let Some(page) = row_text(chain, goal, at, place, row) else {
             return Err(BookFault::NamesNothing);
         };
-        let length = page.put(out)?;
-        Ok(length)
+        put_page(&page, out)
     }
 }

@@ -13,7 +13,10 @@ impl<L: Copy> Curve<L> {
     pub fn single(line: L) -> Curve<L>
         ensures { λ r. ⌜ linesOf r ≡ line ∷ [] ⌝ }
     {
-        Curve { places: [line; 4], count: 1 }
+        Curve {
+            places: [line; 4],
+            count: 1,
+        }
     }
 
     pub fn lines(&self) -> &[L]

@@ -6,7 +6,7 @@ ghost use lib.ListN.{length, getD, set, take};
 ghost use Rattle.chain.specs.Drafts.{nextRelay, furtherRelay, placeRelay, relayPlans};
 ghost use Rattle.text.specs.Continue.{okAs};
 ghost use Rattle.chain.specs.Parsed.{relayLineOf};
-ghost use Rattle.chain.specs.Plan.{servicePlan, serves};
+ghost use Rattle.chain.specs.Plan.{servicePlan};
 use crate::curve::ServiceCurve;
 use crate::draft::RelayDraft;
 use crate::line::ServiceLine;

@@ -1,6 +1,6 @@
 // The stop stream of a chain.
 ghost use mathlib.Core.Path.{_≡_};
-ghost use Prim.Native.Nat.{ℕ, _+_, _≤_};
+ghost use Prim.Native.Nat.{_+_, _≤_};
 ghost use lib.ListN.{length};
 ghost use Rattle.chain.specs.Shape.{hops, next};
 ghost use Rattle.chain.specs.Curves.{linesOf};
