@@ -27,7 +27,9 @@ use Rattle.text.specs.declared.fault.Fault.{Fault}
 use Rattle.text.specs.Continue.{KeptOk}
 use Rattle.text.specs.Written.{answer, filled}
 use Rattle.judge.specs.declared.fault.JudgeFault.the-variants.{Reading as Paper}
-use Rattle.book.specs.Goals.{GoalPlan, readAim}
+use Rattle.sheet.specs.Kind.{Kind}
+use Rattle.book.specs.Goals.{GoalPlan, readPaper}
+use Rattle.book.specs.Judgings.{kindOf, ByKind}
 use Rattle.book.specs.Written.{told}
 use Rattle.book.specs.Writing.{quotesText}
 use Rattle.book.specs.Quotes.{standing, noQuotes, quoteAt, lowered, smaller}
@@ -77,14 +79,31 @@ pub record About (v : Verdict) (p : GoalPlan) (edits : ℕ) : Type 0 where
   pub claim : v .claim ≡ p .claim
   pub counted : v .edits ≡ edits
 
-abbrev pub VerdictTold : ℕ → Result GoalPlan Fault → Result Verdict BookFault → List ℤ → List ℤ → Type 0
-VerdictTold edits (Ok p) r before after = KeptOk (λ v. About v p edits) r
-VerdictTold edits (Err f) r before after = (r ≡ Err (Judging (Paper f))) × (after ≡ before)
+-- the part of an outcome that is the judge's
+abbrev pub JudgedBy : Kind → ℕ → List ℕ → Result Verdict BookFault → List ℤ → List ℤ → Type 0
+JudgedBy k scale rest (Ok v) before after = ByKind k scale rest (Ok tt) before after
+JudgedBy k scale rest (Err (Judging f)) before after = ByKind k scale rest (Err f) before after
+JudgedBy k scale rest (Err EditsExhausted) before after = ⊥
+JudgedBy k scale rest (Err NoChain) before after = ⊥
+JudgedBy k scale rest (Err EditsMoved) before after = ⊥
+JudgedBy k scale rest (Err (Reading f)) before after = ⊥
+JudgedBy k scale rest (Err NamesNothing) before after = ⊥
+JudgedBy k scale rest (Err MemoryTooShort) before after = ⊥
+JudgedBy k scale rest (Err OutOfMemory) before after = ⊥
 
--- without a chain nothing is judged; else the verdict is about what the paper's goal line says
+-- a paper about p with these lines from the third on
+pub record JudgedFor (c : Chain) (edits : ℕ) (p : GoalPlan) (rest : List ℕ) (r : Result Verdict BookFault) (before after : List ℤ) : Type 0 where
+  pub verdict : KeptOk (λ v. About v p edits) r
+  pub lines : JudgedBy (kindOf c (p .goal) (p .at)) (p .scale) rest r before after
+
+abbrev pub VerdictTold : Chain → ℕ → Result (GoalPlan × List ℕ) Fault → Result Verdict BookFault → List ℤ → List ℤ → Type 0
+VerdictTold c edits (Ok p) r before after = JudgedFor c edits (p .0) (p .1) r before after
+VerdictTold c edits (Err f) r before after = (r ≡ Err (Judging (Paper f))) × (after ≡ before)
+
+-- without a chain nothing is judged; else the paper is, by the sheet that its goal line names
 abbrev pub JudgeOutcome : Option Chain → ℕ → List ℕ → Result Verdict BookFault → List ℤ → List ℤ → Type 0
 JudgeOutcome None edits paper r before after = (r ≡ Err NoChain) × (after ≡ before)
-JudgeOutcome (Some c) edits paper r before after = VerdictTold edits (readAim (length (relaysOf c)) paper) r before after
+JudgeOutcome (Some c) edits paper r before after = VerdictTold c edits (readPaper (length (relaysOf c)) paper) r before after
 
 -- ---- enter
 

@@ -1,5 +1,4 @@
 -- The goal line of a paper and the names above it.
-use mathlib.Core.Path.{_≡_}
 use mathlib.Core.Bool.{cond, _&&_}
 use mathlib.Core.List.{List}
 use Prim.Native.Nat.{ℕ}
@@ -10,14 +9,11 @@ use Rattle.std.specs.declared.result.Result.the-variants.{Ok, Err}
 use Rattle.text.specs.declared.fault.Fault.{Fault}
 use Rattle.text.specs.declared.fault.Fault.the-variants.{WordCount, OutOfLimits, NamesNothing, TooLong}
 use denote.Ref.{RefT}
-use lib.IntN.{ℤ}
 use lib.ListN.{length}
-use Rattle.text.specs.Continue.{andThen, unless, KeptOk}
+use Rattle.text.specs.Continue.{andThen, unless}
 use Rattle.text.specs.Lines.{firstLine}
 use Rattle.text.specs.Pieces.{wordCount}
 use Rattle.text.specs.Read.{beginsWith, numberAt, nameAt}
-use Rattle.judge.specs.declared.fault.JudgeFault.{JudgeFault}
-use Rattle.judge.specs.declared.fault.JudgeFault.the-variants.{Reading}
 use Rattle.judge.specs.declared.stated.Stated.{Stated}
 use Rattle.book.specs.declared.goal.Goal.{Goal}
 use Rattle.book.specs.declared.goal.Goal.the-variants.{Delay, Backlog}
@@ -77,7 +73,6 @@ afterTwo bs = andThen (firstLine 1 bs) (λ p. andThen (firstLine 2 (p .1)) (λ q
 abbrev pub heldOne : RefT (List ℕ) → List ℕ
 heldOne r = r .now
 
--- r is the outcome of judging a paper that says so of its aim: one with a fault there is refused by it, and touches no memory
-abbrev pub AimTold : Result GoalPlan Fault → Result Aim JudgeFault → List ℤ → List ℤ → Type 0
-AimTold (Ok p) r before after = KeptOk (λ a. goalPlan a ≡ p) r
-AimTold (Err f) r before after = (r ≡ Err (Reading f)) × (after ≡ before)
+-- what a paper is about, and its lines from the third on
+abbrev pub readPaper : ℕ → List ℕ → Result (GoalPlan × List ℕ) Fault
+readPaper n bs = andThen (readAim n bs) (λ p. andThen (afterTwo bs) (λ rest. Ok (p, rest)))

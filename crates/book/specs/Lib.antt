@@ -5,3 +5,4 @@ pub mod Books
 pub mod Writing
 pub mod Written
 pub mod Goals
+pub mod Judgings

@@ -4,8 +4,11 @@ ghost use Prim.Native.Nat.{_≤_, _<_};
 ghost use lib.ListN.{length};
 ghost use Rattle.chain.specs.Views.{relaysOf};
 ghost use Rattle.text.specs.Continue.{KeptOk, okAs};
-ghost use Rattle.book.specs.Goals.{goalNames, goalAt, claimIn, claimPlan, goalLine, goalPlan, readAim, heldOne, afterTwo, AimTold};
+ghost use Rattle.book.specs.Goals.{goalNames, goalAt, claimIn, claimPlan, goalLine, goalPlan, readAim, readPaper, heldOne, afterTwo};
+ghost use Rattle.book.specs.Judgings.{kindOf, ByKind, AimTold};
 ghost use Rattle.book.specs.Places.{isPlaceOf};
+ghost use Rattle.sheet.specs.Kinds.{delayKind, backlogKind};
+ghost use mathlib.Core.Bool.{true};
 use crate::aim::Aim;
 use crate::goal::Goal;
 use chain::chain::Chain;
@@ -71,7 +74,8 @@ fn claim_in(line: u32, claim: u32, scale: u32) -> Result<Stated, Fault>
 
 // The goal line of a paper for a chain.
 fn goal_line(chain: &Chain, row: &[u8], line: u32) -> Result<Aim, Fault>
-    ensures { λ r. ⌜ okAs goalPlan r ≡ goalLine (length (relaysOf (now (chain .entry)))) line (now (row .entry)) ⌝ }
+    ensures line { λ r. ⌜ okAs goalPlan r ≡ goalLine (length (relaysOf (now (chain .entry)))) line (now (row .entry)) ⌝ }
+    ensures place { λ r. ⌜ KeptOk (λ a. isPlaceOf (length (relaysOf (now (chain .entry)))) (a .goal) (a .at) ≡ true) r ⌝ }
 {
     if word_count(row) != 4 {
         return Err(Fault::WordCount { line });
@@ -90,6 +94,7 @@ fn goal_line(chain: &Chain, row: &[u8], line: u32) -> Result<Aim, Fault>
 // What a paper is about, by its first two lines.
 fn read_aim(chain: &Chain, paper: &[u8]) -> Result<Aim, Fault>
     ensures aim { λ r. ⌜ okAs goalPlan r ≡ readAim (length (relaysOf (now (chain .entry)))) (now (paper .entry)) ⌝ }
+    ensures place { λ r. ⌜ KeptOk (λ a. isPlaceOf (length (relaysOf (now (chain .entry)))) (a .goal) (a .at) ≡ true) r ⌝ }
     ensures short { λ r. ⌜ KeptOk (λ _. length (now (paper .entry)) ≤ 65536) r ⌝ }
 {
     if paper.len() > 65_536 {
@@ -111,18 +116,56 @@ fn after_two<'a>(paper: &'a [u8]) -> Result<&'a [u8], Fault>
     Ok(rest)
 }
 
-// Judges a paper against the sheet that its goal line names, and answers what it shows.
+// Judges the lines from the third on by the delay sheet.
+fn judge_delay(
+    chain: &Chain,
+    stated: Stated,
+    rest: &[u8],
+    sums: &mut [i64],
+) -> Result<(), JudgeFault>
+    requires { ⌜ length (now rest) ≤ 65536 ⌝ }
+    ensures { λ r. ⌜ ByKind (delayKind (now (chain .entry))) (stated .scale) (now (rest .entry)) r (now (sums .entry)) (now (sums .exit)) ⌝ }
+{
+    judge(&DelaySheet::new(chain), stated, rest, 3, sums)
+}
+
+// The same by the backlog sheet of a relay.
+fn judge_backlog(
+    chain: &Chain,
+    relay: u32,
+    stated: Stated,
+    rest: &[u8],
+    sums: &mut [i64],
+) -> Result<(), JudgeFault>
+    requires low { ⌜ 1 ≤ relay ⌝ }
+    requires high { ⌜ relay ≤ length (relaysOf (now chain)) ⌝ }
+    requires short { ⌜ length (now rest) ≤ 65536 ⌝ }
+    ensures { λ r. ⌜ ByKind (backlogKind (now (chain .entry)) relay) (stated .scale) (now (rest .entry)) r (now (sums .entry)) (now (sums .exit)) ⌝ }
+{
+    match BacklogSheet::new(chain, relay) {
+        Some(sheet) => judge(&sheet, stated, rest, 3, sums),
+        None => unreachable(),
+    }
+}
+
+// The same by the sheet that a paper is about.
+fn judge_aim(chain: &Chain, aim: Aim, rest: &[u8], sums: &mut [i64]) -> Result<(), JudgeFault>
+    requires place { ⌜ isPlaceOf (length (relaysOf (now chain))) (aim .goal) (aim .at) ≡ true ⌝ }
+    requires short { ⌜ length (now rest) ≤ 65536 ⌝ }
+    ensures { λ r. ⌜ ByKind (kindOf (now (chain .entry)) (aim .goal) (aim .at)) (aim .stated .scale) (now (rest .entry)) r (now (sums .entry)) (now (sums .exit)) ⌝ }
+{
+    match aim.goal {
+        Goal::Delay => judge_delay(chain, aim.stated, rest, sums),
+        Goal::Backlog => judge_backlog(chain, aim.at, aim.stated, rest, sums),
+    }
+}
+
+// Judges a paper by the sheet that its goal line names, and answers what it is about.
 pub fn judge_paper(chain: &Chain, paper: &[u8], sums: &mut [i64]) -> Result<Aim, JudgeFault>
-    ensures { λ r. ⌜ AimTold (readAim (length (relaysOf (now (chain .entry)))) (now (paper .entry))) r (now (sums .entry)) (now (sums .exit)) ⌝ }
+    ensures { λ r. ⌜ AimTold (now (chain .entry)) (readPaper (length (relaysOf (now (chain .entry)))) (now (paper .entry))) r (now (sums .entry)) (now (sums .exit)) ⌝ }
 {
     let aim = read_aim(chain, paper)?;
     let rest = after_two(paper)?;
-    match aim.goal {
-        Goal::Delay => judge(&DelaySheet::new(chain), aim.stated, rest, 3, sums)?,
-        Goal::Backlog => match BacklogSheet::new(chain, aim.at) {
-            Some(sheet) => judge(&sheet, aim.stated, rest, 3, sums)?,
-            None => return Err(JudgeFault::Reading(Fault::NamesNothing { line: 2, word: 2 })),
-        },
-    }
+    judge_aim(chain, aim, rest, sums)?;
     Ok(aim)
 }
