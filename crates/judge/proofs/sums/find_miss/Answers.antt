@@ -1,4 +1,4 @@
-use Rattle.std.proofs.Common.{◌≡◌, ℕ, ◌+◌, get_or, ℤ, pos, ◌*ℤ◌, sym, ap, ◌∙◌, arith, w64, SFits, of_z, rules, below_more}
+use Rattle.std.proofs.Common.{◌≡◌, ℕ, ◌+◌, get_or, ℤ, pos, ◌*ℤ◌, nat_abs, sym, ap, ◌∙◌, arith, w64, SFits, of_z, rules, below_more}
 use Rattle.std.proofs.lemmas.Int.{to_z-of_z}
 use Rattle.judge.proofs.Lowest.{all_met, first_missed}
 use Rattle.judge.proofs.Machine.{back, back_small, equal_bits}
@@ -9,7 +9,7 @@ scaled-is x m z y e f q = e ∙ ap (λ v. pos m *ℤ v) (to_z-of_z w64 z f ∙ q
 
 pub scaled-requires : goal.scaled-requires
 scaled-requires g c =
-    record { factor = c.requires.scale; number = omega (arith, back_small c.goal.result 1048576 (rw c.goal.ensures (c.requires.limits.goal_small (c.loop-i.i + 1) (omega arith) (omega (arith, c.unknowns-unknowns.ensures)))) (omega arith)) }
+    record { factor = c.requires.scale; number = omega (arith, back_small c.goal.result 1048576 (rw c.goal.ensures (c.requires.limits.goal_small (c.loop-i.i + 1))) (omega arith)) }
 
 pub returns-then-sums-i : goal.returns-then-sums-i
 returns-then-sums-i g c =
