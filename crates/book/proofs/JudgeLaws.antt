@@ -1,19 +1,18 @@
 -- The outcome of judging, handed on.
 use Rattle.std.proofs.Common.{◌≡◌, ℕ, List, length, ℤ, IsErrAnd, Some, Ok, Err, Option, Result, sym, refl, ap, ◌∙◌, subst, arith}
 use Rattle.text.specs.declared.fault.Fault.{Fault}
-use Rattle.text.specs.Continue.{and_then, KeptOk}
+use Rattle.text.specs.Continue.{and_then}
 use Rattle.chain.specs.declared.chain.Chain.{Chain}
 use Rattle.chain.specs.Views.{relays_of}
-use Rattle.sheet.specs.Kind.{Kind}
 use Rattle.judge.specs.declared.fault.JudgeFault.{JudgeFault}
 use Rattle.judge.specs.declared.fault.JudgeFault.TheVariants.{Reading}
 use Rattle.book.specs.declared.aim.Aim.{Aim}
 use Rattle.book.specs.declared.fault.BookFault.{BookFault}
 use Rattle.book.specs.declared.fault.BookFault.TheVariants.{Judging}
 use Rattle.book.specs.declared.verdict.Verdict.{Verdict}
-use Rattle.book.specs.Books.{About, JudgedBy, VerdictTold, JudgeOutcome}
+use Rattle.book.specs.Books.{JudgedBy, VerdictTold, JudgeOutcome}
 use Rattle.book.specs.Goals.{GoalPlan, goal_plan, read_aim, after_two, read_paper}
-use Rattle.book.specs.Judgings.{kind_of, ByKind, PaperJudged, AimTold}
+use Rattle.book.specs.Judgings.{kind_of, ByKind, AimTold}
 
 same_fault : (f : JudgeFault) (g : Fault) → ◌≡◌ {A = Result Aim JudgeFault} (Err f) (Err (Reading g)) → f ≡ Reading g
 same_fault f g e = cc

@@ -1,5 +1,5 @@
 -- The writing calls of a book write as they should.
-use Rattle.std.proofs.Common.{◌≡◌, ℕ, ◌≤◌, Bool, true, false, cond, leb, List, ◌++◌, length, drop, Ok, Err, Result, sym, refl, subst, arith, leb-true}
+use Rattle.std.proofs.Common.{◌≡◌, ℕ, Bool, true, false, cond, leb, List, ◌++◌, length, drop, Ok, Err, Result, sym, refl, subst, leb-true}
 use Rattle.std.proofs.lemmas.List.{drop_at}
 use Rattle.text.specs.Written.{answer, filled}
 use Rattle.book.specs.declared.fault.BookFault.{BookFault}

@@ -1,5 +1,5 @@
 -- What the calls on a book answer, and what they leave in it.
-use Rattle.std.specs.Prelude.{◌≡◌, ℕ, ◌+◌, ◌<◌, ◌≤◌, Bool, true, false, cond, List, length, ℤ, is_some, is_ok, Some, None, Ok, Err, Option, Result, ◌==◌}
+use Rattle.std.specs.Prelude.{◌≡◌, ℕ, ◌+◌, ◌<◌, Bool, true, false, cond, List, length, ℤ, is_some, is_ok, Some, None, Ok, Err, Option, Result, ◌==◌}
 use Rattle.chain.specs.declared.chain.Chain.{Chain}
 use Rattle.chain.specs.Covers.{same_chain}
 use Rattle.chain.specs.Plan.{plan_of}

@@ -1,5 +1,5 @@
 -- The goal line of a paper and the names above it.
-use Rattle.std.specs.Prelude.{ℕ, cond, ◌&&◌, List, length, Ok, Err, codes, Result, ◌==◌, nat_le}
+use Rattle.std.specs.Prelude.{ℕ, cond, ◌&&◌, List, length, Ok, codes, Result, ◌==◌, nat_le}
 use Rattle.text.specs.declared.fault.Fault.{Fault}
 use Rattle.text.specs.declared.fault.Fault.TheVariants.{WordCount, OutOfLimits, NamesNothing, TooLong}
 use Rattle.std.specs.Borrow.{Bor}

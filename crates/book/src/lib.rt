@@ -1,4 +1,6 @@
 // The book: one chain, the claims that stand for it, and the calls on them.
+#![tactic(auto)]
+
 pub mod aim;
 pub mod book;
 pub mod fault;

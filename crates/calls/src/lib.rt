@@ -1,4 +1,6 @@
 // Tests of single calls on a book, with the exact refusal of each that is refused.
+#![tactic(auto)]
+
 #[cfg(test)]
 mod tests {
     use book::book::Book;
@@ -193,7 +195,7 @@ mod tests {
         );
         let mut out = [7u8; 28];
         assert!(rt; write_refusal(BookFault::NoChain, &mut out)? == 28);
-        assert!(rt; &out[21..28] == b"21 0 0\n");
+        assert!(rt; &out[21..28] == b"21 0 0\n".as_slice());
         Ok(())
     }
 
@@ -202,7 +204,7 @@ mod tests {
         let book = opened(rt.alloc(), CHAIN)?;
         let mut out = [7u8; 64];
         assert!(rt; book.write_row(Goal::Delay, 0, 1, 2, &mut out)? == 35);
-        assert!(rt; &out[0..36] == b"2 1 -10\n2 2 10\n2 5 1\n2 6 -1\n2 0 20\n\x07");
+        assert!(rt; &out[0..36] == b"2 1 -10\n2 2 10\n2 5 1\n2 6 -1\n2 0 20\n\x07".as_slice());
         assert!(rt; book.write_row(Goal::Delay, 0, 1, 0, &mut out)? == 18);
         Ok(())
     }
@@ -247,7 +249,7 @@ mod tests {
     #[test]
     fn a_shown_word_is_a_part_of_the_text(rt: HostRuntime) -> Result<(), Fail> {
         let text = b"a bc\n\nd  e";
-        assert!(rt; show(text, 1, 2).ok_or("no word")? == b"bc");
+        assert!(rt; show(text, 1, 2).ok_or("no word")? == b"bc".as_slice());
         assert!(rt; show(text, 3, 2).ok_or("no word")?.is_empty());
         assert!(rt;
             show(text, 2, 1).is_none()

@@ -1,4 +1,6 @@
 // Runs the work of `quote` over the cases that the file `list` names, one to a line, and writes each name and its answer.
+#![tactic(auto)]
+
 use anyhow::anyhow;
 use programs::files::text_of;
 use programs::quote::answer;

@@ -1,5 +1,5 @@
 -- The used front of a table of four places.
-use Rattle.std.proofs.Common.{◌≡◌, ℕ, ◌<◌, ◌≤◌, min, true, false, ltb, List, length, take, sym, refl, arith, length-take}
+use Rattle.std.proofs.Common.{◌≡◌, ℕ, ◌<◌, ◌≤◌, true, false, ltb, List, length, take, sym, arith, length-take}
 use Rattle.std.proofs.lemmas.Bool.{lt-ltb, le-ltb}
 
 module _ {X : Type 0} (xs : List X) (four : length xs ≡ 4) (n : ℕ) where

@@ -1,5 +1,5 @@
 -- The used front of a table, seen through f.
-use Rattle.std.proofs.Common.{◌≡◌, ℕ, ◌+◌, ◌<◌, ◌≤◌, min, List, [], ◌∷◌, ◌++◌, map, length, get_or, take, set, sym, ap, ◌∙◌, arith, length-take, length-take-le, get_or-take}
+use Rattle.std.proofs.Common.{◌≡◌, ℕ, ◌+◌, ◌<◌, ◌≤◌, List, [], ◌∷◌, ◌++◌, map, length, get_or, take, set, sym, ap, ◌∙◌, arith, length-take-le, get_or-take}
 use lib.ListN.{length-map}
 use lib.Seq.{map-set, take-set-lt}
 use Rattle.std.proofs.lemmas.List.{get_or-map, map_push, take_more_set}

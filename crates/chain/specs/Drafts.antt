@@ -1,12 +1,12 @@
 -- How a line of a chain's text adds to the relays and streams before it.
-use Rattle.std.specs.Prelude.{ℕ, ◌+◌, ◌-◌, Bool, true, false, cond, ◌&&◌, ◌||◌, List, [], ◌∷◌, ◌++◌, map, length, take, Ok, Err, Result, ◌==◌, nat_le, nat_lt, slice_index_or, slice_set}
+use Rattle.std.specs.Prelude.{ℕ, ◌+◌, ◌-◌, Bool, cond, ◌&&◌, ◌||◌, List, [], ◌∷◌, ◌++◌, map, length, take, Ok, Result, ◌==◌, nat_le, nat_lt, slice_index_or, slice_set}
 use Rattle.text.specs.declared.fault.Fault.{Fault}
 use Rattle.text.specs.declared.fault.Fault.TheVariants.{WrongNumber, WrongStretch, TooMany}
 use Rattle.text.specs.Continue.{and_then, unless}
 use Rattle.chain.specs.declared.draft.RelayDraft.{RelayDraft}
 use Rattle.chain.specs.declared.draft.StreamDraft.{StreamDraft}
 use Rattle.chain.specs.Lines.{RelayLine, StreamLine}
-use Rattle.chain.specs.Plan.{Sends, Serves, StreamPlan, relay_plan, stream_plan}
+use Rattle.chain.specs.Plan.{Serves, StreamPlan, relay_plan, stream_plan}
 
 -- n is the number of the last of k
 abbrev pub is_last : ℕ → ℕ → Bool

@@ -1,5 +1,5 @@
 -- The lines of a chain's text, each by itself.
-use Rattle.std.specs.Prelude.{ℕ, Bool, true, false, cond, ◌&&◌, List, Ok, Err, codes, Result, ◌==◌, nat_le}
+use Rattle.std.specs.Prelude.{ℕ, ◌&&◌, List, Ok, codes, Result, ◌==◌, nat_le}
 use Rattle.text.specs.declared.fault.Fault.{Fault}
 use Rattle.text.specs.declared.fault.Fault.TheVariants.{WordCount, OutOfLimits}
 use Rattle.text.specs.Continue.{and_then, unless}

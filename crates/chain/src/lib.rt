@@ -1,4 +1,6 @@
 // A chain of relays and the streams that run over it.
+#![tactic(auto)]
+
 pub mod chain;
 pub mod covers;
 pub mod curve;

@@ -1,5 +1,5 @@
 -- The search for the lowest unknown that misses its goal.
-use Rattle.std.proofs.Common.{◌≡◌, ℕ, zero, suc, ◌+◌, ◌-◌, ◌<◌, Bool, true, false, cond, not, List, get_or, ℤ, pos, ◌*ℤ◌, Some, None, sym, refl, ap, ◌∙◌, subst, add-zero, arith}
+use Rattle.std.proofs.Common.{◌≡◌, ℕ, zero, suc, ◌+◌, ◌-◌, ◌<◌, Bool, true, false, not, List, get_or, ℤ, pos, ◌*ℤ◌, Some, None, sym, refl, ap, ◌∙◌, subst, add-zero, arith}
 use borrow.Author.Differences.{ints}
 use Rattle.judge.specs.Sums.{lowest, misses, same_z}
 

@@ -1,4 +1,6 @@
 // Judges a paper's lines against any sheet: their weighted rows have to add up to the goal.
+#![tactic(auto)]
+
 pub mod check;
 pub mod entry;
 pub mod fault;

@@ -1,4 +1,6 @@
 // Reads the files `chain` and `paper` of the folder that it is run in, and writes the quotes or a refusal.
+#![tactic(auto)]
+
 use anyhow::anyhow;
 use programs::files::text_of;
 use programs::quote::answer;

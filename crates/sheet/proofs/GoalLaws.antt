@@ -1,5 +1,5 @@
 -- The goal of a backlog sheet, stream by stream.
-use Rattle.std.proofs.Common.{◌≡◌, ℕ, ◌+◌, ◌<◌, ◌≤◌, Bool, true, false, cond, eqb, List, [], ◌∷◌, length, get_or, drop, ℤ, pos, negsuc, nat_abs, Some, None, Option, unwrap_or, sym, refl, ap, ◌∙◌, subst, arith, w64, to_z, of_z}
+use Rattle.std.proofs.Common.{◌≡◌, ℕ, ◌+◌, ◌<◌, ◌≤◌, Bool, true, false, cond, eqb, List, [], ◌∷◌, length, get_or, drop, ℤ, pos, negsuc, nat_abs, Some, None, Option, unwrap_or, sym, ap, ◌∙◌, subst, arith, w64, to_z, of_z}
 use borrow.Author.Differences.{ints}
 use Rattle.std.proofs.lemmas.List.{at_drop_more, at_drop_all}
 use Rattle.chain.specs.Shape.{crosses}

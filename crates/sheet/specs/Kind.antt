@@ -1,5 +1,5 @@
 -- What a kind of sheet means.
-use Rattle.std.specs.Prelude.{◌≡◌, ℕ, ◌+◌, ◌≤◌, ℤ, unsigned_abs}
+use Rattle.std.specs.Prelude.{ℕ, ◌+◌, ◌≤◌, ℤ, unsigned_abs}
 
 -- places, unknowns, how many rows a place has, what the goal multiplies each unknown by, and what a claim has to stay below
 pub record Kind : Type 1 where

@@ -1,4 +1,6 @@
 // The linear programs of a chain, row by row.
+#![tactic(auto)]
+
 pub mod backlog;
 pub mod delay;
 pub mod kept;

@@ -1,5 +1,5 @@
 -- Laws of `read_lines`.
-use Rattle.std.proofs.Common.{◌≡◌, ℕ, ◌+◌, List, [], IsErrAnd, Some, None, Ok, Err, Option, Result, sym, refl, ap, ◌∙◌}
+use Rattle.std.proofs.Common.{◌≡◌, ℕ, ◌+◌, List, IsErrAnd, Some, None, Ok, Err, Option, Result, sym, refl, ap, ◌∙◌}
 use Rattle.text.specs.declared.fault.Fault.{Fault}
 use Rattle.text.specs.Continue.{and_then}
 use Rattle.text.specs.Lines.{last_or, end_of, at_end, read_lines, TookAll}

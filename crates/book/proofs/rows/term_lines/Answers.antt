@@ -1,4 +1,4 @@
-use Rattle.std.proofs.Common.{◌≡◌, ℕ, ◌<◌, ◌≤◌, get_or, ℤ, pos, nat_abs, sym, refl, subst, arith, w64, to_z, of_z}
+use Rattle.std.proofs.Common.{◌<◌, ◌≤◌, get_or, ℤ, pos, nat_abs, sym, refl, subst, arith, w64, to_z, of_z}
 use borrow.Author.Differences.{ints}
 use Rattle.std.specs.List.{AllByRecursion as All}
 use Rattle.std.proofs.ByRecursion.{All-get_or}
@@ -9,8 +9,8 @@ use Rattle.book.proofs.rows.term_lines.Goals as goal
 small_times : (z : ℤ) → nat_abs z ≤ 1048576 → nat_abs (to_z w64 (of_z w64 z)) < 4294967296
 small_times z h = omega (arith, ints)
 
-pub add-term-line-requires : goal.add-term-line-requires
-add-term-line-requires g c =
+pub add_term_line-requires : goal.add_term_line-requires
+add_term_line-requires g c =
     let n = (g.S.Sheet.meaning c.args.sheet.now).unknowns in
     let fits : Fits n c.row.new.out = c.if-not-row.ensures.wrote refl in
     let each : All (Fine n) c.terms-term-items.result.now = subst (All (Fine n)) (sym c.terms-term-items.ensures.value) fits.each in

@@ -4,8 +4,8 @@ use Rattle.book.proofs.write.quotes_page.Goals as goal
 
 pub loop-i-preserved : goal.loop-i-preserved
 loop-i-preserved c = (
-  backlog-more _ _ c.args.quotes.now.backlog c.loop-i.i _ (omega (arith, c.args.quotes.now.all, c.loop-i-test.true)) c.add-quote-in-loop-i.ensures.text ∙ c.loop-i.invariant.0,
-  omega (arith, c.add-quote-in-loop-i.ensures.bound, c.loop-i.invariant.1),
+  backlog-more _ _ c.args.quotes.now.backlog c.loop-i.i _ (omega (arith, c.args.quotes.now.all, c.loop-i-test.true)) c.add_quote-in-loop-i.ensures.text ∙ c.loop-i.invariant.0,
+  omega (arith, c.add_quote-in-loop-i.ensures.bound, c.loop-i.invariant.1),
 )
 
 pub returns : goal.returns

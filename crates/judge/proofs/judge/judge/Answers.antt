@@ -18,6 +18,6 @@ returns g c =
     let k = g.S.Sheet.meaning c.args.sheet.now in
     let n = c.unknowns-unknowns.result - 0 in
     record {
-      rest = drop-append-drop n c.args.sums.now c.judge-places.new.sums k.unknowns (omega (arith, c.unknowns-unknowns.ensures)) (omega (arith, c.judge-places.auto.sums));
-      judged = passed k c.args.stated.scale _ c.in-ok-lines.lines.text.now c.judge-places.result c.args.sums.now c.judge-places.new.sums (drop n c.args.sums.now) c.in-ok-lines.ensures.lines (omega (arith, c.judge-places.auto.sums, c.unknowns-unknowns.ensures)) c.judge-places.ensures;
+      rest = drop-append-drop n c.args.sums.now c.judge_places.new.sums k.unknowns (omega (arith, c.unknowns-unknowns.ensures)) (omega (arith, c.judge_places.auto.sums));
+      judged = passed k c.args.stated.scale _ c.in_ok-lines.lines.text.now c.judge_places.result c.args.sums.now c.judge_places.new.sums (drop n c.args.sums.now) c.in_ok-lines.ensures.lines (omega (arith, c.judge_places.auto.sums, c.unknowns-unknowns.ensures)) c.judge_places.ensures;
     }

@@ -1,4 +1,4 @@
-use Rattle.std.proofs.Common.{◌≡◌, ℕ, ◌+◌, ◌-◌, ◌*◌, ◌^◌, ◌<◌, ◌≤◌, List, length, get_or, take, ℤ, pos, ◌+ℤ◌, ◌*ℤ◌, nat_abs, sym, ap, ◌∙◌, subst, arith}
+use Rattle.std.proofs.Common.{◌≡◌, ℕ, ◌+◌, ◌-◌, ◌*◌, ◌^◌, ◌<◌, ◌≤◌, List, length, get_or, take, ℤ, pos, ◌+ℤ◌, ◌*ℤ◌, nat_abs, ap, ◌∙◌, arith}
 use Rattle.std.specs.List.{AllByRecursion as All}
 use Rattle.std.proofs.lemmas.List.{length-take-le, take_all}
 use Rattle.std.proofs.ByRecursion.{All-get_or, All-take}
@@ -19,8 +19,8 @@ all-fine n ts us e a = rw e a
 part_small : (n i u : ℕ) (ts : List Term) → All (Fine n) ts → length ts ≤ 34 → i ≤ length ts → nat_abs (coefficient (take i ts) u) ≤ 34 * 1048576
 part_small n i u ts a l h = coefficient_small n (take i ts) u (All-take (Fine n) i ts a) (omega (arith, length-take-le i ts h))
 
-pub add-term-requires : goal.add-term-requires
-add-term-requires c =
+pub add_term-requires : goal.add_term-requires
+add_term-requires c =
     let n = length c.args.sums.now in
     let ts : List Term = c.terms-terms.result.now in
     let i = c.loop-term.term-index in
@@ -40,7 +40,7 @@ loop-term-preserved c k h =
     let ts : List Term = c.terms-terms.result.now in
     let i = c.loop-term.term-index in
     let f : Fine n (get_or ts i none) = All-get_or (Fine n) ts i none c.loop-term-test.true (all-fine n ts (terms_of c.args.row.now) c.terms-terms.ensures.value c.requires.fits.each) in
-    ap (λ (S : List ℤ). get_or S k (pos 0)) c.add-term.ensures
+    ap (λ (S : List ℤ). get_or S k (pos 0)) c.add_term.ensures
     ∙ term_more c.loop-term.sums c.args.sums.now ts i none (pos c.args.times) c.loop-term.auto.sums c.loop-term-test.true f.low (omega (arith, f.high)) c.loop-term.invariant k h
 
 pub returns : goal.returns

@@ -12,8 +12,8 @@ product_small r t m e l h = rw (product r t m e h) (abs_times (pos m) t 1048576 
 pub scaled-requires : goal.scaled-requires
 scaled-requires c = record { factor = c.requires.few; number = omega (arith, back_small c.args.term.times 1048576 c.requires.fine.small (omega arith)) }
 
-pub overflow-add-sums : goal.overflow-add-sums
-overflow-add-sums c =
+pub overflow_add-sums : goal.overflow_add-sums
+overflow_add-sums c =
     sum_fits (get_or c.args.sums.now (c.args.term.unknown - 1) (pos 0)) c.scaled.result (2 ^ 62 + 2 ^ 46) (2 ^ 40) c.requires.small
     (product_small c.scaled.result c.args.term.times c.args.times c.scaled.ensures c.requires.few c.requires.fine.small) (omega arith)
 

@@ -1,4 +1,4 @@
-use Rattle.std.proofs.Common.{◌≡◌, ℕ, ◌+◌, ◌*◌, ◌^◌, ◌≤◌, ℤ, pos, ◌*ℤ◌, nat_abs, refl, arith}
+use Rattle.std.proofs.Common.{◌≡◌, ℕ, ◌^◌, ◌≤◌, ℤ, pos, ◌*ℤ◌, nat_abs, refl, arith}
 use Rattle.judge.proofs.Ints.{abs_times}
 use Rattle.judge.proofs.Machine.{back, back_small}
 use Rattle.judge.proofs.weigh.add_entry.Goals as goal
@@ -10,5 +10,5 @@ pub returns : goal.returns
 returns g c =
     record {
       right = right-small c.scaled.result c.row.new.out.right c.args.entry.times c.scaled.ensures c.args.entry.limit (c.if-not-row.ensures.wrote refl).small;
-      bound = c.add-row.ensures.bound;
+      bound = c.add_row.ensures.bound;
     }

@@ -19,8 +19,8 @@ right-more a r b m n e ha hb l h = rw (back_is b (omega arith)) (back_small (a +
 pub loop-row-init : goal.loop-row-init
 loop-row-init g c = (c.requires.short, all-zero c.clear.new.sums _ c.clear.ensures, omega arith)
 
-pub add-entry-requires : goal.add-entry-requires
-add-entry-requires g c = record { room = omega (arith, c.requires.room); small = wider c.loop-row.sums ((65536 - length c.loop-row.rest.text.now) * (34 * 2 ^ 40)) (2 ^ 62) (omega arith) c.loop-row.invariant.1 }
+pub add_entry-requires : goal.add_entry-requires
+add_entry-requires g c = record { room = omega (arith, c.requires.room); small = wider c.loop-row.sums ((65536 - length c.loop-row.rest.text.now) * (34 * 2 ^ 40)) (2 ^ 62) (omega arith) c.loop-row.invariant.1 }
 
 pub loop-row-smaller : goal.loop-row-smaller
 loop-row-smaller g c = shorter 10 c.loop-row.rest.text.now c.in-Some.row.now c.in-Some.after.now c.in-Some.ensures.bytes
@@ -32,6 +32,6 @@ loop-row-preserved g c =
     let less : m < n = shorter 10 c.loop-row.rest.text.now c.in-Some.row.now c.in-Some.after.now c.in-Some.ensures.bytes in
     let short : n ≤ 65536 = c.loop-row.invariant.0.0 in (
       (omega arith, omega (arith, c.loop-row.invariant.0.1)),
-      wider c.add-entry.new.sums ((65536 - n) * (34 * 2 ^ 40) + 34 * 2 ^ 40) ((65536 - m) * (34 * 2 ^ 40)) (omega arith) (c.in-ok-right.ensures.bound ((65536 - n) * (34 * 2 ^ 40)) c.loop-row.invariant.1),
-      right-more _ c.loop-row.right c.in-ok-right.field-0 m n c.loop-row.right-is c.loop-row.invariant.2 c.in-ok-right.ensures.right less short,
+      wider c.add_entry.new.sums ((65536 - n) * (34 * 2 ^ 40) + 34 * 2 ^ 40) ((65536 - m) * (34 * 2 ^ 40)) (omega arith) (c.in_ok-right.ensures.bound ((65536 - n) * (34 * 2 ^ 40)) c.loop-row.invariant.1),
+      right-more _ c.loop-row.right c.in_ok-right.field-0 m n c.loop-row.right-is c.loop-row.invariant.2 c.in_ok-right.ensures.right less short,
     )

@@ -1,4 +1,4 @@
-use Rattle.std.proofs.Common.{ℕ, ◌-◌, ◌*◌, ◌^◌, ◌≤◌, length, nat_abs}
+use Rattle.std.proofs.Common.{◌-◌, ◌*◌, ◌^◌, ◌≤◌, length, nat_abs}
 use Rattle.std.specs.List.{AllByRecursion as All}
 use Rattle.judge.specs.Papers.{Short}
 use Rattle.judge.proofs.weigh.weigh_place.Given as goal

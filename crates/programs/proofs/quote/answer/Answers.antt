@@ -7,5 +7,5 @@ use Rattle.programs.proofs.quote.answer.Goals as goal
 
 pub returns-in-Err : goal.returns-in-Err
 returns-in-Err c =
-    subst (λ m. Wrote m c.write-refusal.result c.write-refusal.new.out) c.in-Err.ensures
-    (wrote_is _ _ _ _ _ c.write-refusal.ensures.answer c.write-refusal.ensures.after (wrote_text (refusal_text (book_refusal c.in-Err.fault)) c.write-quotes.new.out))
+    subst (λ m. Wrote m c.write_refusal.result c.write_refusal.new.out) c.in-Err.ensures
+    (wrote_is _ _ _ _ _ c.write_refusal.ensures.answer c.write_refusal.ensures.after (wrote_text (refusal_text (book_refusal c.in-Err.fault)) c.write_quotes.new.out))

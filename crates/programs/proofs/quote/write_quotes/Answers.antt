@@ -8,4 +8,4 @@ use Rattle.programs.proofs.quote.write_quotes.Goals as goal
 pub returns : goal.returns
 returns c =
     let b = c.enter.new.self in
-    wrote_is _ _ _ _ _ c.write-quotes.ensures.answer c.write-quotes.ensures.after (wrote_if (is_some b.chain) (quotes_text (standing b.quotes)) c.args.out.now NoChain)
+    wrote_is _ _ _ _ _ c.write_quotes.ensures.answer c.write_quotes.ensures.after (wrote_if (is_some b.chain) (quotes_text (standing b.quotes)) c.args.out.now NoChain)

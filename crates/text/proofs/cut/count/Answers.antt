@@ -12,4 +12,4 @@ loop-after-preserved c =
     (omega arith, omega arith)
 
 pub returns : goal.returns
-returns c = let e = ap length (pieces_none c.args.stop c.loop-after.rest.now c.in-default.ensures.bytes) in record { exact = omega arith; bound = omega arith }
+returns c = let e = ap length (pieces_none c.args.stop c.loop-after.rest.now c.in_default.ensures.bytes) in record { exact = omega arith; bound = omega arith }

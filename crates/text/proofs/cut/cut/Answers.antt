@@ -14,4 +14,4 @@ returns-then-b-stop c =
 pub returns : goal.returns
 returns c =
     let e = sym (cut_none c.args.stop c.args.text.now (λ k h. c.loop-i.invariant k (omega arith))) in
-    record { bytes = e; seats = ap (cut_seat c.args.text.ptr) e }
+    record { bytes = e; seats = ap (cut_seat c.args.text.ref_ptr) e }

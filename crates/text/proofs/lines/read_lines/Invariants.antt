@@ -1,4 +1,4 @@
-use Rattle.std.proofs.Common.{◌≡◌, ℕ, ◌+◌, ◌^◌, ◌<◌, length}
+use Rattle.std.proofs.Common.{◌≡◌, ◌+◌, ◌^◌, ◌<◌, length}
 use Rattle.text.specs.Pieces.{pieces}
 use Rattle.text.specs.Lines.{read_lines}
 use Rattle.text.proofs.lines.read_lines.Given as goal

@@ -2,8 +2,8 @@ use Rattle.std.proofs.Common.{arith, rules}
 use Rattle.text.proofs.DigitLaws.{ten_digits, length_step, length_digit}
 use Rattle.text.proofs.write.digit_count.Goals as goal
 
-pub overflow-add-count : goal.overflow-add-count
-overflow-add-count c = let t = ten_digits c.args.n (search rules) in search rules
+pub overflow_add-count : goal.overflow_add-count
+overflow_add-count c = let t = ten_digits c.args.n (search rules) in search rules
 
 pub loop-front-preserved : goal.loop-front-preserved
 loop-front-preserved c = let s = length_step c.loop-front.front c.loop-front-test.true (search rules) in (omega arith, omega arith)

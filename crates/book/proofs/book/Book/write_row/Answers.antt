@@ -11,5 +11,5 @@ pub returns : goal.returns
 returns c =
     record {
       chain = λ e. absurd (never c.args.self.now.chain c.in-Some.chain c.in-Some.is e);
-      wrote = wrote_is _ _ _ _ _ c.put-page.ensures.answer c.put-page.ensures.after (wrote_text (on_page c.in-Some-row-text.page) c.args.out.now);
+      wrote = wrote_is _ _ _ _ _ c.put_page.ensures.answer c.put_page.ensures.after (wrote_text (on_page c.in-Some-row_text.page) c.args.out.now);
     }

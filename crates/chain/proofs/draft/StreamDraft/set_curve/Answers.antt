@@ -1,4 +1,4 @@
-use Rattle.std.proofs.Common.{◌≡◌, ◌<◌, length, get_or, set, sym, refl, ap, ◌∙◌, arith, length-set}
+use Rattle.std.proofs.Common.{◌≡◌, ◌<◌, length, get_or, set, refl, ap, ◌∙◌, arith, length-set}
 use Rattle.std.proofs.lemmas.List.{get_or_default}
 use Rattle.chain.specs.declared.stream.Stream.{Stream}
 use Rattle.chain.specs.Drafts.{stream_plans}
@@ -7,24 +7,19 @@ use Rattle.chain.proofs.KeepLaws.{lies_set, stops_set_at}
 use Rattle.chain.proofs.PlanLaws.{plan_at, plan_set}
 use Rattle.chain.proofs.draft.StreamDraft.set_curve.Goals as goal
 
-pub invariant-of-result : goal.invariant-of-result
-invariant-of-result c =
+pub invariant_of-result : goal.invariant_of-result
+invariant_of-result c =
     let s = c.args.self in
     let new : Stream = record { stretch = (get_or s.places c.args.k c.index-places-k.result).stretch; curve = c.args.curve } in
     let within : c.args.k < length s.places = omega (arith, s.all, s.few, c.requires) in
-    let kept : new.stretch ≡ (get_or s.places c.args.k new).stretch = ap (λ t. t.stretch) (get_or_default s.places c.args.k c.index-places-k.result new within) in (
-      s.some,
-      (
-        simp length-set s.all,
-        (
-          s.few,
-          (
-            lies_set s.relays.count s.count s.places c.args.k new c.requires kept s.lies,
-            (stops_set_at s.relays.count s.count s.places c.args.k new c.requires kept s.stops, tt),
-          ),
-        ),
-      ),
-    )
+    let kept : new.stretch ≡ (get_or s.places c.args.k new).stretch = ap (λ t. t.stretch) (get_or_default s.places c.args.k c.index-places-k.result new within) in
+    record {
+      some = s.some;
+      all = simp length-set s.all;
+      few = s.few;
+      lies = lies_set s.relays.count s.count s.places c.args.k new c.requires kept s.lies;
+      stops = stops_set_at s.relays.count s.count s.places c.args.k new c.requires kept s.stops;
+    }
 
 pub returns : goal.returns
 returns c =

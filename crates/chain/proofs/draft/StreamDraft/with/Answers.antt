@@ -11,9 +11,9 @@ returns c =
     let rs = c.args.self.relays in
     let next : c.args.row.number ≡ length (stream_plans c.args.self) + 1 = omega (arith, c.len-2.ensures.plans) in
     record {
-      relays = c.with-next.ensures.relays;
+      relays = c.with_next.ensures.relays;
       streams =
-          c.with-next.ensures.streams
+          c.with_next.ensures.streams
           ∙ ap (λ n. next_stream n (stream_plans c.args.self) c.args.line (stream_line_of c.args.row)) (sym (plan_length relay_plan rs.places rs.count (omega (arith, rs.all, rs.few))))
           ∙ placed_next _ _ _ _ _ next;
     }

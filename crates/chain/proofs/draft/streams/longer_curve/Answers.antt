@@ -1,4 +1,4 @@
-use Rattle.std.proofs.Common.{◌≡◌, List, refl, ◌∙◌}
+use Rattle.std.proofs.Common.{List, refl, ◌∙◌}
 use Rattle.chain.specs.Plan.{StreamPlan, Sends, sends}
 use Rattle.chain.proofs.DraftLaws.{further-room, same_stretch}
 use Rattle.chain.proofs.draft.streams.longer_curve.Goals as goal

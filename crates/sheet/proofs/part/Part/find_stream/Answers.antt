@@ -12,8 +12,8 @@ returns-then-left-rows c =
       omega (arith, own_within c.args.self.now.last c.streams-streams.result.now c.streams-streams.ensures.few short c.loop-stream.stream-index c.loop-stream.offset c.loop-stream.invariant c.stream-item.result c.loop-stream-test.true c.stream-item.is),
     )
 
-pub overflow-add-offset : goal.overflow-add-offset
-overflow-add-offset c =
+pub overflow_add-offset : goal.overflow_add-offset
+overflow_add-offset c =
     let short : c.args.self.now.last ≤ 8 = omega arith in
     omega (arith, c.width-offset.ensures.few, offset_few c.args.self.now.last c.streams-streams.result.now c.streams-streams.ensures.few short c.loop-stream.stream-index c.loop-stream.offset c.loop-stream.invariant)
 

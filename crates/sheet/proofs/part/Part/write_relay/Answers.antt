@@ -4,7 +4,7 @@ use Rattle.sheet.proofs.part.Part.write_relay.Goals as goal
 
 pub returns : goal.returns
 returns c = λ n h.
-    c.write-crossings.ensures n
+    c.write_crossings.ensures n
     (c.plus.ensures.fits n
     (c.minus.ensures.fits n (c.start.ensures.fits (omega (arith, ints)) n) c.requires.low (omega arith) (omega arith))
     (omega arith) (omega arith) (omega arith))

@@ -9,5 +9,5 @@ returns-in-Some-position c =
       fits = λ n f h.
           let kept = c.in-Some.ensures in
           let same = kept_values c.args.stream.now.stretch c.args.last c.in-Some.kept.stretch kept.1 in
-          c.minus.ensures.fits n (c.plus.ensures.fits n f (omega (arith, c.out-at.ensures.value)) (omega (arith, kept.0, c.out-at.ensures.within)) (omega arith)) (omega (arith, c.out-at-in-Some-position.ensures.value)) (omega (arith, kept.0, c.out-at-in-Some-position.ensures.within)) (omega arith);
+          c.minus.ensures.fits n (c.plus.ensures.fits n f (omega (arith, c.out_at.ensures.value)) (omega (arith, kept.0, c.out_at.ensures.within)) (omega arith)) (omega (arith, c.out_at-in-Some-position.ensures.value)) (omega (arith, kept.0, c.out_at-in-Some-position.ensures.within)) (omega arith);
     }

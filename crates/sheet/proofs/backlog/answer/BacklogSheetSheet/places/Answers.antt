@@ -1,4 +1,4 @@
-use Rattle.std.proofs.Common.{ℕ, ◌≤◌, true, false, cond, eqb, refl, arith}
+use Rattle.std.proofs.Common.{◌≤◌, true, false, cond, eqb, refl, arith}
 use Rattle.chain.specs.Shape.{next}
 use Rattle.chain.specs.Views.{streams_of}
 use Rattle.sheet.specs.Parts.{part_rows}
