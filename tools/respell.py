@@ -3,17 +3,17 @@
 
 usage: python3 tools/respell.py [FOLDER]      the top of a checkout; without it, the one that this file lies in
 
-A name is renamed that is declared in specs/, in a file of lemmas (proofs/*.antt) or in a Choices.antt: a small letter before a capital becomes
-two words, and a dash becomes an underscore. A lemma that would get the name of a definition gets `_lem` after it. Types, modules and facts
-(names that begin with a capital), answers in proofs/FUNCTION/ and everything that is declared in src/ keep their names. Where a new name is a
-word of some antt file already, the script says so and changes nothing.
+A name is renamed that is declared in specs/ or proofs/ and answers no goal: a small letter before a capital becomes two words, and a dash becomes
+an underscore. A lemma that would get the name of a definition gets `_lem` after it. Types, modules and facts (names that begin with a capital),
+answers to goals and everything that is declared in src/ keep their names. Where a new name is a word of some antt file already, the script says
+so and changes nothing.
 """
 
 import os
 import re
 import sys
 
-DECLARED = re.compile(r"^\s*(?:(?:abbrev|unfoldable|pub|private) )*([A-Za-z_][\w'-]*) *:(?= )")
+DECLARED = re.compile(r"^\s*(?:(?:abbrev|unfoldable|pub|private) )*([A-Za-z_][\w'-]*) *:(?! *goal\.)(?=\s|$)")
 GENERATED = re.compile(r"(invariant|decreases|loop|returns|overflow|bounds|slice_bounds|branch|invariant_of|prove)-|.*-(requires|preserved|init|smaller)$")
 TOKEN = re.compile(r"(?<![\w'·-])[A-Za-z_][\w']*(?:-[\w']+)*(?![\w'-])")
 
@@ -50,7 +50,7 @@ def renamings(top):
         for line in read(path).splitlines():
             line = line.split("-- ")[0]
             found = DECLARED.match(line)
-            if where != "answer" and found:
+            if found:
                 declared.setdefault(found[1], set()).add(where)
             for m in TOKEN.finditer(line):
                 if line[m.start() - 1 : m.start()] != ".":

@@ -18,26 +18,26 @@ same_fault : (f : JudgeFault) (g : Fault) → ◌≡◌ {A = Result Aim JudgeFau
 same_fault f g e = cc
 
 -- a fault in the first two lines
-pub told-early :
+pub told_early :
     (c : Chain) (s : Result (GoalPlan × List ℕ) Fault) (r : Result Aim JudgeFault) (f : Fault) (m : List ℤ)
     → IsErrAnd r (λ e. e ≡ Reading f) → s ≡ Err f → AimTold c s r m m
-told-early c s (Ok a) f m h e = absurd h
-told-early c s (Err g) f m h e = subst (λ t. AimTold c t (Err g) m m) (sym e) (ap Err h, refl)
+told_early c s (Ok a) f m h e = absurd h
+told_early c s (Err g) f m h e = subst (λ t. AimTold c t (Err g) m m) (sym e) (ap Err h, refl)
 
 -- a refusal of the later lines
-pub told-late :
+pub told_late :
     (c : Chain) (s : Result (GoalPlan × List ℕ) Fault) (p : GoalPlan) (rest : List ℕ) (r : Result Aim JudgeFault) (f : JudgeFault) (before after : List ℤ)
     → s ≡ Ok (p, rest) → IsErrAnd r (λ e. e ≡ f) → ByKind (kind_of c p.goal p.at) p.scale rest (Err f) before after → AimTold c s r before after
-told-late c s p rest (Ok a) f before after e h j = absurd h
-told-late c s p rest (Err g) f before after e h j =
+told_late c s p rest (Ok a) f before after e h j = absurd h
+told_late c s p rest (Err g) f before after e h j =
     subst (λ t. AimTold c t (Err g) before after) (sym e)
     (record { aim = tt; lines = subst (λ x. ByKind (kind_of c p.goal p.at) p.scale rest (Err x) before after) (sym h) j })
 
 -- a pass
-pub told-pass :
+pub told_pass :
     (c : Chain) (s : Result (GoalPlan × List ℕ) Fault) (a : Aim) (rest : List ℕ) (before after : List ℤ)
     → s ≡ Ok (goal_plan a, rest) → ByKind (kind_of c a.goal a.at) a.stated.scale rest (Ok tt) before after → AimTold c s (Ok a) before after
-told-pass c s a rest before after e j = subst (λ t. AimTold c t (Ok a) before after) (sym e) (record { aim = refl; lines = j })
+told_pass c s a rest before after e j = subst (λ t. AimTold c t (Ok a) before after) (sym e) (record { aim = refl; lines = j })
 
 -- what was read, as one
 pub paper_read : (n : ℕ) (bs : List ℕ) (p : GoalPlan) (rest : List ℕ) → Ok p ≡ read_aim n bs → Ok rest ≡ after_two bs → read_paper n bs ≡ Ok (p, rest)
@@ -52,30 +52,30 @@ rest_wrong n bs p f e q =
     ap (λ r. and_then r (λ x. and_then (after_two bs) (λ y. Ok (x, y)))) (sym e) ∙ ap (λ r. and_then r (λ y. Ok (p, y))) (sym q)
 
 -- a refused paper, as the book tells it
-pub refused-told :
+pub refused_told :
     (c : Chain) (edits : ℕ) (s : Result (GoalPlan × List ℕ) Fault) (r : Result Verdict BookFault) (f : JudgeFault) (before after : List ℤ)
     → IsErrAnd r (λ e. e ≡ Judging f) → AimTold c s (Err f) before after → VerdictTold c edits s r before after
-refused-told c edits (Ok p) (Ok v) f before after h t = absurd h
-refused-told c edits (Ok p) (Err e) f before after h t =
+refused_told c edits (Ok p) (Ok v) f before after h t = absurd h
+refused_told c edits (Ok p) (Err e) f before after h t =
     record { verdict = tt; lines = subst (λ x. JudgedBy (kind_of c p.0.goal p.0.at) p.0.scale p.1 (Err x) before after) (sym h) t.lines }
-refused-told c edits (Err g) (Ok v) f before after h t = absurd h
-refused-told c edits (Err g) (Err e) f before after h t = (ap Err (h ∙ ap Judging (same_fault f g t.0)), t.1)
+refused_told c edits (Err g) (Ok v) f before after h t = absurd h
+refused_told c edits (Err g) (Err e) f before after h t = (ap Err (h ∙ ap Judging (same_fault f g t.0)), t.1)
 
 -- a paper that passed, as the book tells it
-passed-told :
+passed_told :
     (c : Chain) (edits : ℕ) (s : Result (GoalPlan × List ℕ) Fault) (a : Aim) (v : Verdict) (before after : List ℤ)
     → v.goal ≡ a.goal → v.at ≡ a.at → v.claim ≡ a.stated.claim → v.edits ≡ edits
     → AimTold c s (Ok a) before after → VerdictTold c edits s (Ok v) before after
-passed-told c edits (Ok p) a v before after g t l d j =
+passed_told c edits (Ok p) a v before after g t l d j =
     record {
       verdict = record { goal = g ∙ ap (λ q. q.goal) j.aim; at = t ∙ ap (λ q. q.at) j.aim; claim = l ∙ ap (λ q. q.claim) j.aim; counted = d };
       lines = j.lines;
     }
-passed-told c edits (Err f) a v before after g t l d j = let e = j.0 in let z : ◌≡◌ {A = ℕ} 0 1 = cc in absurd (omega arith)
+passed_told c edits (Err f) a v before after g t l d j = let e = j.0 in let z : ◌≡◌ {A = ℕ} 0 1 = cc in absurd (omega arith)
 
-pub judged-pass :
+pub judged_pass :
     (o : Option Chain) (c : Chain) (edits : ℕ) (paper : List ℕ) (a : Aim) (v : Verdict) (before after : List ℤ)
     → o ≡ Some c → v.goal ≡ a.goal → v.at ≡ a.at → v.claim ≡ a.stated.claim → v.edits ≡ edits
     → AimTold c (read_paper (length (relays_of c)) paper) (Ok a) before after → JudgeOutcome o edits paper (Ok v) before after
-judged-pass o c edits paper a v before after e g t l d j =
-    subst (λ x. JudgeOutcome x edits paper (Ok v) before after) (sym e) (passed-told c edits (read_paper (length (relays_of c)) paper) a v before after g t l d j)
+judged_pass o c edits paper a v before after e g t l d j =
+    subst (λ x. JudgeOutcome x edits paper (Ok v) before after) (sym e) (passed_told c edits (read_paper (length (relays_of c)) paper) a v before after g t l d j)

@@ -9,10 +9,10 @@ added_append w [] ys = refl
 added_append w (x ∷ xs) ys = added_append (w ++ x) xs ys
 
 -- the line of the relay at i was written
-pub backlog-more :
+pub backlog_more :
     (w v : List ℕ) (qs : List (Option ℕ)) (i : ℕ) (d : Option ℕ) → i < length qs → v ≡ added_to w (quote_parts (codes "backlog") (i + 1) (get_or qs i d))
     → added_to v (backlog_parts (i + 1 + 1) (drop (i + 1) qs)) ≡ added_to w (backlog_parts (i + 1) (drop i qs))
-backlog-more w v qs i d h e =
+backlog_more w v qs i d h e =
     ap (λ x. added_to x (backlog_parts (i + 1 + 1) (drop (i + 1) qs))) e
     ∙ sym (added_append w (quote_parts (codes "backlog") (i + 1) (get_or qs i d)) (backlog_parts (i + 1 + 1) (drop (i + 1) qs)))
     ∙ ap (added_to w) (sym (at_drop_more (backlog_parts (i + 1)) qs i d h))

@@ -35,10 +35,10 @@ module _ {T : Type 0} (same : T → T → Bool) where
   other_length (x ∷ xs) (y ∷ ys) h = rw (other_length xs ys (λ e. h (ap suc e))) (and_false (same x y))
 
   -- b says whether the items at i are alike
-  pub alike-more :
+  pub alike_more :
       (xs ys : List T) (i : ℕ) (x y : T) (b : Bool) → i < length xs → i < length ys → x ≡ get_or xs i x → y ≡ get_or ys i y → b ≡ same x y
       → all_alike same (drop i xs) (drop i ys) ≡ b && all_alike same (drop (i + 1) xs) (drop (i + 1) ys)
-  alike-more xs ys i x y b h l e q t =
+  alike_more xs ys i x y b h l e q t =
       at_drop_more (λ zs. all_alike same zs (drop i ys)) xs i x h
       ∙ at_drop_more (all_alike same (get_or xs i x ∷ drop (i + 1) xs)) ys i y l
       ∙ (λ j. same (sym e j) (sym q j) && all_alike same (drop (i + 1) xs) (drop (i + 1) ys))

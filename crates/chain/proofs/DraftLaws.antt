@@ -16,10 +16,10 @@ module _ {X Y : Type 0} (f : X → Y) (xs : List X) (ys : List Y) (same : map f 
   further_full go e = sym (ap (λ b. unless b fault go) (room_same false e))
 
   -- there is room, and x comes last
-  pub further-room :
+  pub further_room :
       {A : Type 0} (put : List Y → A) (after : List X) (x : X) (y : Y) (new : A) → true ≡ ltb (length xs) 4 → after ≡ xs ++ x ∷ []
       → f x ≡ y → new ≡ put (map f after) → Ok new ≡ unless (ltb (length ys) 4) fault (Ok (put (ys ++ y ∷ [])))
-  further-room put after x y new e a q p =
+  further_room put after x y new e a q p =
       ap Ok (p ∙ ap put (ap (map f) a ∙ map_push f xs x ∙ (λ i. same i ++ q i ∷ [])))
       ∙ sym (ap (λ b. unless b fault (Ok (put (ys ++ y ∷ [])))) (room_same true e))
 

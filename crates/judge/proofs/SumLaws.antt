@@ -2,7 +2,7 @@
 use Rattle.std.proofs.Common.{◌≡◌, ℕ, ◌+◌, ◌-◌, ◌*◌, ◌^◌, ◌<◌, ◌≤◌, true, false, cond, eqb, ◌≢◌, List, [], ◌∷◌, ◌++◌, length, get_or, take, set, ℤ, pos, ◌+ℤ◌, ◌*ℤ◌, nat_abs, sym, ap, ◌∙◌, subst, ⊎_elim, mul-le-mul_right, add-mul, arith}
 use borrow.Author.Differences.{ints}
 use lib.IntN.{+ℤ_assoc, +ℤ_idr}
-use Rattle.std.specs.List.{AllByRecursion as All}
+use Rattle.std.specs.List.{AllByRecursion}
 use Rattle.std.proofs.lemmas.List.{take_more, get_or-set_same, get_or-set_other}
 use Rattle.std.proofs.ByRecursion.{All-get_or, All-from_get_or, All-weaker}
 use Rattle.std.proofs.lemmas.Bool.Decides.{eqb_tells}
@@ -20,7 +20,7 @@ module _ {X : Type 0} (f : X → ℤ) where
   sum_z_more : (xs : List X) (i : ℕ) (d : X) → i < length xs → sum_z f (take (i + 1) xs) ≡ sum_z f (take i xs) +ℤ f (get_or xs i d)
   sum_z_more xs i d h = ap (sum_z f) (take_more xs i d h) ∙ sum_z_push (take i xs) (get_or xs i d)
 
-  sum_z_small : (b : ℕ) (xs : List X) → All (λ x. nat_abs (f x) ≤ b) xs → nat_abs (sum_z f xs) ≤ length xs * b
+  sum_z_small : (b : ℕ) (xs : List X) → AllByRecursion (λ x. nat_abs (f x) ≤ b) xs → nat_abs (sum_z f xs) ≤ length xs * b
   sum_z_small b [] a = omega arith
   sum_z_small b (x ∷ xs) a = omega (arith, a.0, sum_z_small b xs a.1, abs_plus (f x) (sum_z f xs), add-mul 1 (length xs) b)
 
@@ -28,7 +28,7 @@ here_small : (n : ℕ) (t : Term) (u : ℕ) → Fine n t → nat_abs (cond (eqb 
 here_small n t u f = let s = f.small in elim (eqb t.unknown u) as (λ b. nat_abs (cond b t.times (pos 0)) ≤ 1048576) [ true ↦ s | false ↦ omega arith ]
 
 -- what the terms of a row multiply an unknown by is small
-pub coefficient_small : (n : ℕ) (ts : List Term) (u : ℕ) → All (Fine n) ts → length ts ≤ 34 → nat_abs (coefficient ts u) ≤ 34 * 1048576
+pub coefficient_small : (n : ℕ) (ts : List Term) (u : ℕ) → AllByRecursion (Fine n) ts → length ts ≤ 34 → nat_abs (coefficient ts u) ≤ 34 * 1048576
 coefficient_small n ts u a l =
     omega (arith, sum_z_small (λ t. cond (eqb t.unknown u) t.times (pos 0)) 1048576 ts (All-weaker (Fine n) _ (λ t f. here_small n t u f) ts a), mul-le-mul_right 1048576 l)
 
@@ -63,6 +63,6 @@ pub sum_within : (z z₀ : ℤ) (b m : ℕ) (c : ℤ) → z ≡ z₀ +ℤ pos m 
 sum_within z z₀ b m c e a h d = rw e (omega (arith, abs_plus z₀ (pos m *ℤ c), abs_times (pos m) c 1048576 (34 * 1048576) h d))
 
 -- all sums after a row
-pub all_within : (S S₀ : List ℤ) (b m : ℕ) (c : ℕ → ℤ) → length S ≡ length S₀ → ((k : ℕ) → k < length S₀ → get_or S k (pos 0) ≡ get_or S₀ k (pos 0) +ℤ pos m *ℤ c (k + 1)) → All (λ z. nat_abs z ≤ b) S₀ → m ≤ 1048576 → ((u : ℕ) → nat_abs (c u) ≤ 34 * 1048576) → All (λ z. nat_abs z ≤ b + 34 * 2 ^ 40) S
+pub all_within : (S S₀ : List ℤ) (b m : ℕ) (c : ℕ → ℤ) → length S ≡ length S₀ → ((k : ℕ) → k < length S₀ → get_or S k (pos 0) ≡ get_or S₀ k (pos 0) +ℤ pos m *ℤ c (k + 1)) → AllByRecursion (λ z. nat_abs z ≤ b) S₀ → m ≤ 1048576 → ((u : ℕ) → nat_abs (c u) ≤ 34 * 1048576) → AllByRecursion (λ z. nat_abs z ≤ b + 34 * 2 ^ 40) S
 all_within S S₀ b m c same e a h d =
     All-from_get_or _ S (pos 0) (λ k l. sum_within (get_or S k (pos 0)) (get_or S₀ k (pos 0)) b m (c (k + 1)) (e k (omega arith)) (All-get_or _ S₀ k (pos 0) (omega arith) a) h (d (k + 1)))

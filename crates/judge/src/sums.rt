@@ -1,6 +1,6 @@
 // The sums of the unknowns, in memory that the caller lends: the sum of the unknown k stands at k - 1.
 ghost use Rattle.std.specs.Prelude.{◌≡◌, ℕ, ◌+◌, ◌-◌, ◌*◌, ◌^◌, ◌<◌, ◌≤◌, length, pos, ◌+ℤ◌, ◌*ℤ◌, int_lt, slice_index_or, slice_set, unsigned_abs};
-ghost use Rattle.std.specs.List.{AllByRecursion as All};
+ghost use Rattle.std.specs.List.{AllByRecursion};
 ghost use Rattle.sheet.specs.Kind.{Limits};
 ghost use Rattle.sheet.specs.Rows.{Fine, Fits, terms_of};
 ghost use Rattle.judge.specs.Sums.{coefficient, lowest, misses};
@@ -44,9 +44,9 @@ pub fn add_term(sums: &mut [i64], times: u32, term: Term)
 pub fn add_row(row: &Row, times: u32, sums: &mut [i64])
     requires fits { Fits (length sums.old) row.now }
     requires few { times ≤ 1048576 }
-    requires small { All (λ z. unsigned_abs z ≤ 2 ^ 62) sums.old }
+    requires small { AllByRecursion (λ z. unsigned_abs z ≤ 2 ^ 62) sums.old }
     ensures added { (k : ℕ) → k < length sums.old → slice_index_or sums.new k (pos 0) ≡ slice_index_or sums.old k (pos 0) +ℤ pos times *ℤ coefficient (terms_of row.now) (k + 1) }
-    ensures bound { (b : ℕ) → All (λ z. unsigned_abs z ≤ b) sums.old → All (λ z. unsigned_abs z ≤ b + 34 * 2 ^ 40) sums.new }
+    ensures bound { (b : ℕ) → AllByRecursion (λ z. unsigned_abs z ≤ b) sums.old → AllByRecursion (λ z. unsigned_abs z ≤ b + 34 * 2 ^ 40) sums.new }
 {
     let terms = row.terms();
     for term in terms {

@@ -1,6 +1,6 @@
 // Weighs the lines of one place: the weighted rows are added up and held against the goal.
 ghost use Rattle.std.specs.Prelude.{◌≡◌, ℕ, ◌+◌, ◌*◌, ◌^◌, ◌≤◌, length, unsigned_abs};
-ghost use Rattle.std.specs.List.{AllByRecursion as All};
+ghost use Rattle.std.specs.List.{AllByRecursion};
 ghost use Rattle.sheet.specs.Kind.{Limits};
 ghost use Rattle.text.specs.Continue.{KeptOk};
 ghost use Rattle.judge.specs.Outcomes.{OnlyReading, place_verdict, Shown};
@@ -26,9 +26,9 @@ fn add_entry<S: Sheet>(
     sums: &mut [i64],
 ) -> Result<i64, Fault>
     requires room { length sums.old ≡ (S.Sheet.meaning sheet.now).unknowns }
-    requires small { All (λ z. unsigned_abs z ≤ 2 ^ 62) sums.old }
+    requires small { AllByRecursion (λ z. unsigned_abs z ≤ 2 ^ 62) sums.old }
     ensures right { KeptOk (λ z. unsigned_abs z ≤ 2 ^ 44) result }
-    ensures bound { KeptOk (λ _. (b : ℕ) → All (λ z. unsigned_abs z ≤ b) sums.old → All (λ z. unsigned_abs z ≤ b + 34 * 2 ^ 40) sums.new) result }
+    ensures bound { KeptOk (λ _. (b : ℕ) → AllByRecursion (λ z. unsigned_abs z ≤ b) sums.old → AllByRecursion (λ z. unsigned_abs z ≤ b + 34 * 2 ^ 40) sums.new) result }
 {
     if !sheet.row(entry.place, entry.row, out) {
         return Err(Fault::NamesNothing { line, word: 2 });

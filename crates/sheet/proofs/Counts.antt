@@ -25,26 +25,26 @@ module _ {X : Type 0} (f : X → ℕ) (F : List X → ℕ) (adds : (x : X) (xs :
   sum_more xs i x n h e q =
       at_drop_more F xs i x h ∙ adds (get_or xs i x) (drop (i + 1) xs) ∙ ap (λ y. f y + F (drop (i + 1) xs)) (sym e) ∙ ap (λ m. m + F (drop (i + 1) xs)) (sym q)
 
-pub widths-more :
+pub widths_more :
     (last : ℕ) (ss : List Stream) (i : ℕ) (s : Stream) (n : ℕ) → i < length ss → s ≡ get_or ss i s → n ≡ width_of last s.stretch
     → widths last (drop i ss) ≡ n + widths last (drop (i + 1) ss)
-widths-more last ss i s n h e q = sum_more (λ x. width_of last x.stretch) (widths last) (λ x xs. refl) ss i s n h e q
+widths_more last ss i s n h e q = sum_more (λ x. width_of last x.stretch) (widths last) (λ x xs. refl) ss i s n h e q
 
 pub widths_all : (last : ℕ) (ss : List Stream) (i : ℕ) → length ss ≤ i → widths last (drop i ss) ≡ 0
 widths_all last ss i h = at_drop_all (widths last) ss i h
 
-pub stream-rows-more :
+pub stream_rows_more :
     (last : ℕ) (ss : List Stream) (i : ℕ) (s : Stream) (n : ℕ) → i < length ss → s ≡ get_or ss i s → n ≡ stream_rows last s
     → streams_rows last (drop i ss) ≡ n + streams_rows last (drop (i + 1) ss)
-stream-rows-more last ss i s n h e q = sum_more (stream_rows last) (streams_rows last) (λ x xs. refl) ss i s n h e q
+stream_rows_more last ss i s n h e q = sum_more (stream_rows last) (streams_rows last) (λ x xs. refl) ss i s n h e q
 
 pub stream_rows_all : (last : ℕ) (ss : List Stream) (i : ℕ) → length ss ≤ i → streams_rows last (drop i ss) ≡ 0
 stream_rows_all last ss i h = at_drop_all (streams_rows last) ss i h
 
-pub relay-rows-more :
+pub relay_rows_more :
     (rs : List Relay) (i : ℕ) (r : Relay) (n : ℕ) → i < length rs → r ≡ get_or rs i r → n ≡ length (lines_of r.curve)
     → relays_rows (drop i rs) ≡ n + relays_rows (drop (i + 1) rs)
-relay-rows-more rs i r n h e q = sum_more (λ x. length (lines_of x.curve)) relays_rows (λ x xs. refl) rs i r n h e q
+relay_rows_more rs i r n h e q = sum_more (λ x. length (lines_of x.curve)) relays_rows (λ x xs. refl) rs i r n h e q
 
 pub relay_rows_all : (rs : List Relay) (i : ℕ) → length rs ≤ i → relays_rows (drop i rs) ≡ 0
 relay_rows_all rs i h = at_drop_all relays_rows rs i h
@@ -85,7 +85,7 @@ module _ (last : ℕ) (ss : List Stream) (few : length ss ≤ 16) (short : last 
 
   module _ (s : Stream) (lt : i < length ss) (is : s ≡ get_or ss i s) where
     pub own_within : offset + width_of last s.stretch ≤ last + 1 + widths last ss
-    own_within = omega (arith, b.all, widths-more last ss i s (width_of last s.stretch) lt is refl)
+    own_within = omega (arith, b.all, widths_more last ss i s (width_of last s.stretch) lt is refl)
 
     pub begins_more : (n : ℕ) → n ≡ width_of last s.stretch → Begins last ss (i + 1) (offset + n)
-    begins_more n e = record { low = omega (arith, b.low); all = omega (arith, b.all, widths-more last ss i s n lt is e) }
+    begins_more n e = record { low = omega (arith, b.low); all = omega (arith, b.all, widths_more last ss i s n lt is e) }

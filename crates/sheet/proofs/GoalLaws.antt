@@ -10,10 +10,10 @@ use Rattle.sheet.specs.Parts.{kept_hops, width_of}
 
 module _ (relay o u : ℕ) (ss : List Stream) (i : ℕ) (s : Stream) (lt : i < length ss) (is : s ≡ get_or ss i s) where
   -- the stream at i says t, and has n unknowns
-  pub waiting-more :
+  pub waiting_more :
       (t : Option ℤ) (n : ℕ) → t ≡ wait_of relay o s.stretch u → n ≡ width_of relay s.stretch
       → waiting relay o (drop i ss) u ≡ unwrap_or t (waiting relay (o + n) (drop (i + 1) ss) u)
-  waiting-more t n e q =
+  waiting_more t n e q =
       at_drop_more (λ ts. waiting relay o ts u) ss i s lt
       ∙ ap (λ (x : Stream). unwrap_or (wait_of relay o x.stretch u) (waiting relay (o + width_of relay x.stretch) (drop (i + 1) ss) u)) (sym is)
       ∙ (λ j. unwrap_or (sym e j) (waiting relay (o + sym q j) (drop (i + 1) ss) u))

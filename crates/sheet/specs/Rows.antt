@@ -1,6 +1,6 @@
 -- A row by the list of its terms, and the limits that every row keeps.
 use Rattle.std.specs.Prelude.{ℕ, zero, suc, ◌≤◌, List, [], ◌∷◌, take, ℤ, pos, negsuc, unsigned_abs}
-use Rattle.std.specs.List.{AllByRecursion as All}
+use Rattle.std.specs.List.{AllByRecursion}
 use Rattle.sheet.specs.declared.row.Row.{Row}
 use Rattle.sheet.specs.declared.row.Term.{Term}
 
@@ -21,5 +21,5 @@ pub record Fine (n : ℕ) (t : Term) : Type 0 where
 
 -- a row over n unknowns within its limits
 pub record Fits (n : ℕ) (r : Row) : Type 0 where
-  pub each : All (Fine n) (terms_of r)
+  pub each : AllByRecursion (Fine n) (terms_of r)
   pub small : unsigned_abs r.right ≤ 16777216

@@ -1,5 +1,5 @@
 use Rattle.std.proofs.Common.{◌≡◌, ℕ, ◌+◌, ◌-◌, ◌*◌, ◌^◌, ◌<◌, ◌≤◌, List, length, get_or, take, ℤ, pos, ◌+ℤ◌, ◌*ℤ◌, nat_abs, ap, ◌∙◌, arith}
-use Rattle.std.specs.List.{AllByRecursion as All}
+use Rattle.std.specs.List.{AllByRecursion}
 use Rattle.std.proofs.lemmas.List.{length-take-le, take_all}
 use Rattle.std.proofs.ByRecursion.{All-get_or, All-take}
 use Rattle.sheet.specs.declared.row.Term.{Term}
@@ -12,11 +12,11 @@ abbrev none : Term
 none = record { unknown = 0; times = pos 0 }
 
 -- the terms that the loop takes are the row's
-all-fine : (n : ℕ) (ts us : List Term) → ts ≡ us → All (Fine n) us → All (Fine n) ts
-all-fine n ts us e a = rw e a
+all_fine : (n : ℕ) (ts us : List Term) → ts ≡ us → AllByRecursion (Fine n) us → AllByRecursion (Fine n) ts
+all_fine n ts us e a = rw e a
 
 -- what part of the terms multiplies an unknown by is small
-part_small : (n i u : ℕ) (ts : List Term) → All (Fine n) ts → length ts ≤ 34 → i ≤ length ts → nat_abs (coefficient (take i ts) u) ≤ 34 * 1048576
+part_small : (n i u : ℕ) (ts : List Term) → AllByRecursion (Fine n) ts → length ts ≤ 34 → i ≤ length ts → nat_abs (coefficient (take i ts) u) ≤ 34 * 1048576
 part_small n i u ts a l h = coefficient_small n (take i ts) u (All-take (Fine n) i ts a) (omega (arith, length-take-le i ts h))
 
 pub add_term-requires : goal.add_term-requires
@@ -24,7 +24,7 @@ add_term-requires c =
     let n = length c.args.sums.now in
     let ts : List Term = c.terms-terms.result.now in
     let i = c.loop-term.term-index in
-    let a : All (Fine n) ts = all-fine n ts (terms_of c.args.row.now) c.terms-terms.ensures.value c.requires.fits.each in
+    let a : AllByRecursion (Fine n) ts = all_fine n ts (terms_of c.args.row.now) c.terms-terms.ensures.value c.requires.fits.each in
     let f : Fine n (get_or ts i none) = All-get_or (Fine n) ts i none c.loop-term-test.true a in
     let u : ℕ = (get_or ts i none).unknown - 1 in
     let at : u < n = omega (arith, f.low, f.high) in
@@ -39,7 +39,7 @@ loop-term-preserved c k h =
     let n = length c.args.sums.now in
     let ts : List Term = c.terms-terms.result.now in
     let i = c.loop-term.term-index in
-    let f : Fine n (get_or ts i none) = All-get_or (Fine n) ts i none c.loop-term-test.true (all-fine n ts (terms_of c.args.row.now) c.terms-terms.ensures.value c.requires.fits.each) in
+    let f : Fine n (get_or ts i none) = All-get_or (Fine n) ts i none c.loop-term-test.true (all_fine n ts (terms_of c.args.row.now) c.terms-terms.ensures.value c.requires.fits.each) in
     ap (λ (S : List ℤ). get_or S k (pos 0)) c.add_term.ensures
     ∙ term_more c.loop-term.sums c.args.sums.now ts i none (pos c.args.times) c.loop-term.auto.sums c.loop-term-test.true f.low (omega (arith, f.high)) c.loop-term.invariant k h
 
