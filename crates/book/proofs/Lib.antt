@@ -1,3 +1,8 @@
 pub mod WriteLaws
-pub mod WroteLaws
-pub mod JudgeLaws
+pub mod EditLaws
+pub mod OutcomeLaws
+pub mod QuoteLaws
+pub mod JudgedLaws
+pub mod SameLaws
+pub mod EditBounds
+pub mod RunLaws

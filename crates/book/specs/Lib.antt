@@ -1,8 +1,7 @@
 pub mod Refusals
-pub mod Places
 pub mod Quotes
-pub mod Books
+pub mod States
 pub mod Writing
 pub mod Written
-pub mod Goals
-pub mod Judgings
+pub mod Calls
+pub mod Runs

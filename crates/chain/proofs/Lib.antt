@@ -1,5 +1,4 @@
 pub mod Fronts
 pub mod CoverLaws
-pub mod PlanLaws
-pub mod DraftLaws
-pub mod KeepLaws
+pub mod WithinLaws
+pub mod SameLaws

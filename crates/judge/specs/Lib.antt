@@ -1,4 +1,6 @@
 pub mod Refusals
+pub mod Programs
 pub mod Papers
-pub mod Sums
-pub mod Outcomes
+pub mod Judging
+pub mod Rest
+pub mod Laws

@@ -5,6 +5,7 @@ pub mod check;
 pub mod entry;
 pub mod fault;
 pub mod judge;
+pub mod laws;
 pub mod line;
 pub mod lines;
 pub mod stated;

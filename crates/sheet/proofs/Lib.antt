@@ -1,3 +1,10 @@
-pub mod Terms
-pub mod Counts
+pub mod ListLaws
+pub mod AskedLaws
+pub mod StreamRowLaws
+pub mod CutLaws
+pub mod KeptLaws
 pub mod GoalLaws
+pub mod CrossLaws
+pub mod RelayLaws
+pub mod PartLaws
+pub mod DelayLaws

@@ -1,4 +1,3 @@
-pub mod Rows
-pub mod Kind
+pub mod Asked
 pub mod Parts
-pub mod Kinds
+pub mod Delays

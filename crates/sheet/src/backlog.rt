@@ -1,6 +1,7 @@
 // The sheet that bounds the backlog of one relay.
-ghost use Rattle.std.specs.Prelude.{◌≡◌, ◌≤◌};
-ghost use Rattle.sheet.specs.Parts.{part_rows};
+ghost use Rattle.std.specs.Prelude.{◌≡◌, length};
+ghost use Rattle.model.specs.SheetRows.{base_rows};
+ghost use Rattle.sheet.specs.Parts.{part_plan};
 
 use crate::part::Part;
 
@@ -12,6 +13,5 @@ pub mod waiting;
 pub struct BacklogSheet<'a> {
     part: Part<'a>,
     rows: u32,
-    ghost all_rows: { rows ≡ part_rows part.chain.now part.last },
-    ghost few_rows: { rows ≤ 4096 },
+    ghost all_rows: { rows ≡ length (base_rows (part_plan part)) },
 }

@@ -5,5 +5,3 @@ pub mod backlog;
 pub mod delay;
 pub mod kept;
 pub mod part;
-pub mod row;
-pub mod sheet;

@@ -1,13 +1,15 @@
 // The numbers of a stream's unknowns: its in values along the stretch, then its out values.
-ghost use Rattle.std.specs.Prelude.{◌≡◌, ◌+◌, ◌≤◌};
+ghost use Rattle.std.specs.Prelude.{◌≡◌, ◌≤◌};
+ghost use Rattle.chain.specs.Plan.{Plan};
 ghost use Rattle.chain.specs.Shape.{hops, node};
-ghost use Rattle.sheet.specs.Parts.{values};
+ghost use Rattle.model.specs.Unknowns.{in_of, out_of};
+ghost use Rattle.sheet.specs.Parts.{kept_plan};
 
 use crate::kept::Kept;
 
 impl Kept<'_> {
     // How many relays it crosses.
-    pub fn hops(&self) -> u32
+    pub(crate) fn hops(&self) -> u32
         ensures value { result ≡ hops self.now.stretch }
         ensures some { 1 ≤ result }
         ensures few { result ≤ 8 }
@@ -16,29 +18,25 @@ impl Kept<'_> {
     }
 
     // The date of the node at a position: its relay's number, as dates come first.
-    pub fn date_at(&self, position: u32) -> u32
+    pub(crate) fn date_at(&self, position: u32) -> u32
         requires { position ≤ hops self.now.stretch }
-        ensures value { result ≡ node self.now.stretch position }
-        ensures low { 1 ≤ result }
-        ensures high { result ≤ self.now.offset }
+        ensures { result ≡ node self.now.stretch position }
     {
         self.stretch.node(position)
     }
 
     // What has entered by the date of the node at a position.
-    pub fn in_at(&self, position: u32) -> u32
+    pub(crate) fn in_at(&self, position: u32) -> u32
         requires { position ≤ hops self.now.stretch }
-        ensures value { result ≡ self.now.offset + 1 + position }
-        ensures within { result ≤ self.now.offset + values self.now.stretch }
+        ensures { (c : Plan) → result ≡ in_of c self.now.offset (kept_plan self.now) (node self.now.stretch position) }
     {
         self.offset + 1 + position
     }
 
     // What has left the node at a position by its date; after the last relay, what has left that one.
-    pub fn out_at(&self, position: u32) -> u32
+    pub(crate) fn out_at(&self, position: u32) -> u32
         requires { position ≤ hops self.now.stretch }
-        ensures value { result ≡ self.now.offset + 1 + hops self.now.stretch + 1 + position }
-        ensures within { result ≤ self.now.offset + values self.now.stretch }
+        ensures { (c : Plan) → result ≡ out_of c self.now.offset (kept_plan self.now) (node self.now.stretch position) }
     {
         self.offset + 1 + self.hops() + 1 + position
     }

@@ -1,0 +1,4 @@
+pub mod Lines
+pub mod Parsed
+pub mod Drafts
+pub mod Texts

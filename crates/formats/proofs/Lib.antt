@@ -1,0 +1,20 @@
+-- The lemmas of the proofs: of words and lines, of readers of any format, and of a chain's text.
+pub mod DigitLaws
+pub mod PartLaws
+pub mod ListLaws
+pub mod OutcomeLaws
+pub mod RowLaws
+pub mod WordLaws
+pub mod WrittenLaws
+pub mod RunLaws
+pub mod PassLaws
+pub mod ReaderLaws
+pub mod GatherLaws
+pub mod ChainRows
+pub mod PlaceLaws
+pub mod StageLaws
+pub mod ChainPass
+pub mod ChainTold
+pub mod ChainFits
+pub mod ChainEnds
+pub mod ChainLaws

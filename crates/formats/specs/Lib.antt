@@ -1,0 +1,4 @@
+pub mod Spelled
+pub mod Refused
+pub mod ChainTexts
+pub mod Laws

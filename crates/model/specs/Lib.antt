@@ -1,0 +1,6 @@
+pub mod Unknowns
+pub mod SheetRows
+pub mod Parts
+pub mod Readings
+pub mod Kinds
+pub mod Promises

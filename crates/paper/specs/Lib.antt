@@ -1,0 +1,4 @@
+pub mod Places
+pub mod Goals
+pub mod Judgings
+pub mod RowTexts

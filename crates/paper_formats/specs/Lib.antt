@@ -1,0 +1,3 @@
+pub mod PaperTexts
+pub mod Judged
+pub mod Laws
