@@ -1,9 +1,12 @@
 -- Texts that are written part by part.
-use Rattle.std.proofs.Common.{◌≡◌, ℕ, ◌+◌, ◌<◌, ◌≤◌, List, length, get_or, drop, codes, Option, sym, ap, ◌∙◌}
+use Rattle.std.proofs.Common.{◌≡◌, ℕ, ◌+◌, ◌<◌, ◌≤◌, List, [], ◌∷◌, ◌++◌, length, get_or, drop, codes, Option, sym, refl, ap, ◌∙◌}
 use Rattle.std.proofs.lemmas.List.{at_drop_more, at_drop_all}
-use Rattle.outputs.specs.Written.{added_to}
-use Rattle.outputs.proofs.RowLaws.{added_append}
+use Rattle.text.specs.Written.{added_to}
 use Rattle.book.specs.Writing.{quote_parts, backlog_parts}
+
+pub added_append : (w : List ℕ) (xs ys : List (List ℕ)) → added_to w (xs ++ ys) ≡ added_to (added_to w xs) ys
+added_append w [] ys = refl
+added_append w (x ∷ xs) ys = added_append (w ++ x) xs ys
 
 -- the line of the relay at i was written
 pub backlog_more :

@@ -1,7 +1,8 @@
 pub mod Refusals
+pub mod Places
 pub mod Quotes
-pub mod States
+pub mod Books
 pub mod Writing
 pub mod Written
-pub mod Calls
-pub mod Runs
+pub mod Goals
+pub mod Judgings

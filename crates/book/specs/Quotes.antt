@@ -1,7 +1,7 @@
 -- The claims that stand: one for the delay and one for each relay, where there is one.
-use Rattle.std.specs.Prelude.{ℕ, ◌-◌, cond, List, set, replicate, Some, None, Option, nat_lt, slice_index_or, slice_set}
-use Rattle.paper.specs.declared.goal.Goal.{Goal}
-use Rattle.paper.specs.declared.goal.Goal.TheVariants.{Delay, Backlog}
+use Rattle.std.specs.Prelude.{ℕ, ◌-◌, cond, List, replicate, Some, None, Option, nat_lt, slice_index_or, slice_set}
+use Rattle.book.specs.declared.goal.Goal.{Goal}
+use Rattle.book.specs.declared.goal.Goal.TheVariants.{Delay, Backlog}
 use Rattle.book.specs.declared.quotes.Quotes.{Quotes}
 
 pub record Standing : Type 0 where

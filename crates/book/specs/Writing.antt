@@ -1,6 +1,7 @@
 -- The texts that the calls write, each as the parts that stand one after another.
-use Rattle.std.specs.Prelude.{ℕ, ◌+◌, List, [], ◌∷◌, ◌++◌, Some, None, codes, decimal, Option}
-use Rattle.outputs.specs.Written.{joined}
+use Rattle.std.specs.Prelude.{ℕ, ◌+◌, List, [], ◌∷◌, ◌++◌, ℤ, Some, None, codes, decimal, Option}
+use Rattle.std.specs.Fmt.{signed_decimal}
+use Rattle.text.specs.Written.{joined}
 use Rattle.book.specs.Quotes.{Standing}
 
 -- a line for a quote; none where it is absent
@@ -16,3 +17,7 @@ backlog_parts at (q ∷ qs) = quote_parts (codes "backlog") at q ++ backlog_part
 -- the names, the delay, then relay by relay
 abbrev pub quotes_text : Standing → List ℕ
 quotes_text s = joined (codes "goal at claim\n" ∷ (quote_parts (codes "delay") 0 s.delay ++ backlog_parts 1 s.backlog))
+
+-- a line for a term of a row
+abbrev pub term_parts : ℕ → ℕ → ℤ → List (List ℕ)
+term_parts row unknown times = decimal row ∷ (codes " " ∷ (decimal unknown ∷ (codes " " ∷ (signed_decimal times ∷ (codes "\n" ∷ [])))))

@@ -4,29 +4,17 @@ ghost use Rattle.book.specs.declared.fault.BookFault.TheVariants.{Reading, Judgi
 ghost use Rattle.book.specs.Refusals.{book_refusal};
 
 use judge::fault::JudgeFault;
-use outputs::page::Short;
 use std::alloc::AllocError;
 use text::fault::{Fault, Refusal};
+use text::page::Short;
 
-#[derive(Clone, Copy, Debug)]
+#[derive(Clone, Copy, Debug, PartialEq, Eq)]
 pub enum BookFault {
     // A million edits were made.
     EditsExhausted,
     NoChain,
     // The chain was edited since the verdict was given.
     EditsMoved,
-    // There is no such stream, or relay, to drop or change.
-    NoSuchStream,
-    NoSuchRelay,
-    // The stop stream cannot be dropped.
-    StopStream,
-    // Sixteen streams stand.
-    StreamsFull,
-    // The first line, by its index from 1, of which a value is out of its limits: 1 for a burst or a relay's rate, 2 for the other.
-    LineOutOfLimits { index: u32, value: u32 },
-    WrongStretch,
-    // A curve of none or of more than four lines.
-    LineCount,
     // The chain's text is not in order.
     Reading(Fault),
     // The paper does not pass.
@@ -89,21 +77,11 @@ impl BookFault {
         match self {
             BookFault::Reading(fault) => fault.refusal(),
             BookFault::Judging(fault) => fault.refusal(),
-            BookFault::LineOutOfLimits { index, value } => Refusal {
-                number: 2,
-                first: index,
-                second: value,
-            },
-            BookFault::WrongStretch => plain(3),
-            BookFault::LineCount => plain(4),
             BookFault::NamesNothing => plain(5),
             BookFault::MemoryTooShort => plain(8),
             BookFault::OutOfMemory => plain(9),
             BookFault::NoChain => plain(21),
             BookFault::EditsMoved => plain(22),
-            BookFault::NoSuchStream | BookFault::NoSuchRelay => plain(23),
-            BookFault::StopStream => plain(24),
-            BookFault::StreamsFull => plain(25),
             BookFault::EditsExhausted => plain(26),
         }
     }

@@ -1,10 +1,13 @@
 // The book: one chain, the claims that stand for it, and the calls on them.
 #![tactic(auto)]
 
+pub mod aim;
 pub mod book;
 pub mod fault;
-pub mod law;
+pub mod goal;
+pub mod paper;
 pub mod quotes;
+pub mod rows;
 pub mod verdict;
 pub mod write;
 

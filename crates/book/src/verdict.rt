@@ -1,8 +1,8 @@
 // What judging gives for a paper that passed.
 ghost use Rattle.std.specs.Prelude.{◌≡◌, true};
-ghost use Rattle.paper.specs.Places.{is_place};
+ghost use Rattle.book.specs.Places.{is_place};
 
-use paper::goal::Goal;
+use crate::goal::Goal;
 
 pub mod read;
 

@@ -1,15 +1,15 @@
-// Writing quotes and refusals into lent memory.
-ghost use Rattle.std.specs.Prelude.{◌≡◌, ◌+◌, ◌≤◌, length};
-ghost use Rattle.outputs.specs.Written.{on_page, added_to, answer, filled, refusal_text};
+// Writing quotes, rows and refusals into lent memory.
+ghost use Rattle.std.specs.Prelude.{◌≡◌, ◌+◌, ◌^◌, ◌<◌, ◌≤◌, length, unsigned_abs};
+ghost use Rattle.text.specs.Written.{on_page, added_to, answer, filled, refusal_text};
 ghost use Rattle.book.specs.Quotes.{standing};
 ghost use Rattle.book.specs.Refusals.{book_refusal};
 ghost use Rattle.book.specs.Written.{told};
-ghost use Rattle.book.specs.Writing.{quote_parts, quotes_text};
+ghost use Rattle.book.specs.Writing.{quote_parts, quotes_text, term_parts};
 
 use crate::fault::BookFault;
 use crate::quotes::Quotes;
-use outputs::page::Page;
-use outputs::write::write_refusal as put_refusal;
+use text::page::Page;
+use text::write::write_refusal as put_refusal;
 
 // Adds a line for a quote, if there is one.
 fn add_quote(page: &mut Page, name: &[u8], at: u32, quote: Option<u32>)
@@ -38,6 +38,21 @@ pub fn quotes_page(quotes: &Quotes) -> Page
         add_quote(&mut page, b"backlog", i + 1, quotes.backlog[i as usize]);
     }
     page
+}
+
+// Adds the line of a term.
+pub fn add_term_line(page: &mut Page, row: u32, unknown: u32, times: i64)
+    requires small { unsigned_abs times < 2 ^ 32 }
+    requires room { page.old.used + 34 ≤ 2048 }
+    ensures text { on_page page.new ≡ added_to (on_page page.old) (term_parts row unknown times) }
+    ensures bound { page.new.used ≤ page.old.used + 34 }
+{
+    page.add_number(row);
+    page.add(b" ");
+    page.add_number(unknown);
+    page.add(b" ");
+    page.add_signed(times);
+    page.add(b"\n");
 }
 
 // Copies a page to the start of lent memory and answers its length.

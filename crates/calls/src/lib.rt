@@ -5,10 +5,10 @@
 mod tests {
     use book::book::Book;
     use book::fault::BookFault;
+    use book::goal::Goal;
     use book::show;
     use book::verdict::Verdict;
     use book::write::write_refusal;
-    use paper::goal::Goal;
     use std::alloc::Global;
     use std::test::Fail;
     use text::fault::Refusal;

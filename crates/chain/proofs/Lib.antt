@@ -1,4 +1,5 @@
 pub mod Fronts
 pub mod CoverLaws
-pub mod WithinLaws
-pub mod SameLaws
+pub mod PlanLaws
+pub mod DraftLaws
+pub mod KeepLaws

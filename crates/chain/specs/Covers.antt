@@ -41,3 +41,7 @@ all_alike same [] [] = true
 all_alike same [] (b ∷ bs) = false
 all_alike same (a ∷ more) [] = false
 all_alike same (a ∷ more) (b ∷ bs) = same a b && all_alike same more bs
+
+-- the same chain: as many relays and streams, the same curves, equal stretches
+abbrev pub same_chain : List Relay → List Stream → List Relay → List Stream → Bool
+same_chain rs ss qs ts = all_alike same_relay rs qs && all_alike same_stream ss ts

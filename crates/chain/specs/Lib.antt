@@ -5,7 +5,7 @@ pub mod Shape
 pub mod Keeps
 pub mod Views
 pub mod Plan
-pub mod Within
-pub mod Walks
-pub mod Histories
-pub mod Edits
+pub mod Lines
+pub mod Parsed
+pub mod Drafts
+pub mod Texts

@@ -1,10 +1,10 @@
--- The order of relays: only this file says that the relay after j is j + 1, and what that makes of a stretch.
-use Rattle.std.specs.Prelude.{ℕ, suc, ◌+◌, ◌-◌, Bool, cond, ◌&&◌, Some, None, Option, nat_le}
+-- The order of relays. Only this file says that the relay after j is j + 1.
+use Rattle.std.specs.Prelude.{ℕ, ◌+◌, ◌-◌, Bool, cond, ◌&&◌, Some, None, Option, nat_le}
 use Rattle.chain.specs.declared.stretch.Stretch.{Stretch}
 
 -- the relay after relay j; after the last one, the number past it
 abbrev pub next : ℕ → ℕ
-next j = suc j
+next j = j + 1
 
 -- how many relays a stretch has
 abbrev pub hops : Stretch → ℕ

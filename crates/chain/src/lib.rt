@@ -4,7 +4,11 @@
 pub mod chain;
 pub mod covers;
 pub mod curve;
+pub mod draft;
 pub mod line;
+pub mod parse;
+pub mod read;
+pub mod row;
 pub mod same;
 pub mod shape;
 pub mod stream;

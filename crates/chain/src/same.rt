@@ -1,8 +1,7 @@
 // Whether two chains are the same.
 ghost use Rattle.std.specs.Prelude.{◌≡◌, Bool};
-ghost use Rattle.chain.specs.Covers.{same_relay, same_stream, all_alike};
-ghost use Rattle.chain.specs.Edits.{same_plan};
-ghost use Rattle.chain.specs.Plan.{plan_of};
+ghost use Rattle.chain.specs.Covers.{same_relay, same_stream, all_alike, same_chain};
+ghost use Rattle.chain.specs.Views.{relays_of, streams_of};
 
 use crate::chain::Chain;
 use crate::covers::same_curve;
@@ -50,7 +49,7 @@ fn all_alike<T: Alike>(a: &[T], b: &[T]) -> bool
 
 impl Chain {
     pub fn same(&self, other: &Chain) -> bool
-        ensures { result ≡ same_plan (plan_of self.now) (plan_of other.now) }
+        ensures { result ≡ same_chain (relays_of self.now) (streams_of self.now) (relays_of other.now) (streams_of other.now) }
     {
         all_alike(self.relays(), other.relays()) && all_alike(self.streams(), other.streams())
     }

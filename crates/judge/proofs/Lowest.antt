@@ -1,9 +1,9 @@
 -- The search for the lowest unknown that misses its goal.
-use Rattle.std.proofs.Common.{◌≡◌, ℕ, zero, suc, ◌+◌, ◌-◌, ◌<◌, Bool, true, false, cond, not, List, get_or, ℤ, pos, ◌*ℤ◌, Some, None, sym, refl, ap, ◌∙◌, subst, add-zero, arith}
+use Rattle.std.proofs.Common.{◌≡◌, ℕ, zero, suc, ◌+◌, ◌-◌, ◌<◌, Bool, true, false, not, List, get_or, ℤ, pos, ◌*ℤ◌, Some, None, sym, refl, ap, ◌∙◌, subst, add-zero, arith}
 use borrow.Author.Differences.{ints}
-use Rattle.judge.specs.Judging.{lowest, misses, same_z}
+use Rattle.judge.specs.Sums.{lowest, misses, same_z}
 
-pub lowest_none : (test : ℕ → Bool) (u n : ℕ) → ((k : ℕ) → k < n → test (u + k) ≡ false) → lowest test u n ≡ None
+lowest_none : (test : ℕ → Bool) (u n : ℕ) → ((k : ℕ) → k < n → test (u + k) ≡ false) → lowest test u n ≡ None
 lowest_none test u zero none = refl
 lowest_none test u (suc n) none =
     let here : test u ≡ false = subst (λ (x : ℕ). test x ≡ false) (add-zero u) (none 0 (omega arith)) in
@@ -18,21 +18,8 @@ lowest_some test u (suc n) (suc k) lt below at =
     let here : test u ≡ false = subst (λ (x : ℕ). test x ≡ false) (add-zero u) (below 0 (omega arith)) in
     rw here (lowest_some test (u + 1) n k (omega arith) (λ j h. subst (λ (x : ℕ). test x ≡ false) (omega arith) (below (suc j) (omega arith))) (subst (λ (x : ℕ). test x ≡ true) (omega arith) at) ∙ ap Some (omega arith))
 
-none_step : (test : ℕ → Bool) (u n : ℕ) (b : Bool) → test u ≡ b → cond b (Some u) (lowest test (u + 1) n) ≡ None → (test u ≡ false) × (lowest test (u + 1) n ≡ None)
-none_step test u n true e q = let z : ◌≡◌ {A = ℕ} 0 1 = cc in absurd (omega arith)
-none_step test u n false e q = (e, q)
-
--- and back: where nothing is found, no number passes
-pub none_lowest : (test : ℕ → Bool) (u n : ℕ) → lowest test u n ≡ None → (k : ℕ) → k < n → test (u + k) ≡ false
-none_lowest test u zero e k h = absurd (omega arith)
-none_lowest test u (suc n) e zero h = subst (λ (x : ℕ). test x ≡ false) (omega arith) (none_step test u n (test u) refl e).0
-none_lowest test u (suc n) e (suc k) h = subst (λ (x : ℕ). test x ≡ false) (omega arith) (none_lowest test (u + 1) n (none_step test u n (test u) refl e).1 k (omega arith))
-
-pub same_yes : (a b : ℤ) → a ≡ b → not (same_z a b) ≡ false
+same_yes : (a b : ℤ) → a ≡ b → not (same_z a b) ≡ false
 same_yes a b e = grind (arith, ints)
-
-pub yes_same : (a b : ℤ) → not (same_z a b) ≡ false → a ≡ b
-yes_same a b e = grind (arith, ints)
 
 same_no : (a b : ℤ) → (a ≡ b → ⊥) → not (same_z a b) ≡ true
 same_no a b e = grind (arith, ints)

@@ -44,17 +44,3 @@ module _ (a b : ℤ) (m n : ℕ) (ha : nat_abs a ≤ m) (hb : nat_abs b ≤ n) (
 
   pub sum_back : back (back a +ℤ back b) ≡ a +ℤ b
   sum_back = rw sum_is (back_is (a +ℤ b) sum_small)
-
--- a sum of a running number and a number that a call gave
-module _ (a b : ℤ) (m n : ℕ) (ha : nat_abs a ≤ m) (hb : nat_abs b ≤ n) (fits : m + n < 2 ^ 63) where
-  plus_is : a +ℤ back b ≡ a +ℤ b
-  plus_is = rw (back_is b (omega arith))
-
-  plus_small : nat_abs (a +ℤ b) < 2 ^ 63
-  plus_small = omega (arith, abs_plus a b)
-
-  pub plus_fits : SFits w64 (a +ℤ back b)
-  plus_fits = rw plus_is (fits_abs (a +ℤ b) plus_small)
-
-  pub plus_back : back (a +ℤ back b) ≡ a +ℤ b
-  plus_back = rw plus_is (back_is (a +ℤ b) plus_small)

@@ -1,11 +1,15 @@
--- Laws of sums of whole numbers.
-use Rattle.std.proofs.Common.{◌≡◌, ℕ, zero, suc, ◌+◌, ◌*◌, ◌<◌, ◌≤◌, List, [], ◌∷◌, ◌++◌, length, get_or, take, ℤ, pos, ◌+ℤ◌, ◌*ℤ◌, nat_abs, ◌≤ℤ◌, refl, ap, ◌∙◌, add-mul, arith}
+-- What the loop over the terms of a row needs.
+use Rattle.std.proofs.Common.{◌≡◌, ℕ, ◌+◌, ◌-◌, ◌*◌, ◌^◌, ◌<◌, ◌≤◌, true, false, cond, eqb, ◌≢◌, List, [], ◌∷◌, ◌++◌, length, get_or, take, set, ℤ, pos, ◌+ℤ◌, ◌*ℤ◌, nat_abs, sym, ap, ◌∙◌, subst, ⊎_elim, mul-le-mul_right, add-mul, arith}
 use borrow.Author.Differences.{ints}
-use lib.IntN.{*ℤ-zero, zero-*ℤ}
+use lib.IntN.{+ℤ_assoc, +ℤ_idr}
 use Rattle.std.specs.List.{AllByRecursion}
-use Rattle.std.proofs.lemmas.List.{take_more}
-use Rattle.kind.specs.Sums.{sum_z, sum_to}
-use Rattle.judge.proofs.Ints.{times_plus, plus_times, abs_plus}
+use Rattle.std.proofs.lemmas.List.{take_more, get_or-set_same, get_or-set_other}
+use Rattle.std.proofs.ByRecursion.{All-get_or, All-from_get_or, All-weaker}
+use Rattle.std.proofs.lemmas.Bool.Decides.{eqb_tells}
+use Rattle.sheet.specs.declared.row.Term.{Term}
+use Rattle.sheet.specs.Rows.{Fine}
+use Rattle.judge.specs.Sums.{sum_z, coefficient}
+use Rattle.judge.proofs.Ints.{times_plus, abs_plus, abs_times}
 
 module _ {X : Type 0} (f : X → ℤ) where
   sum_z_push : (xs : List X) (x : X) → sum_z f (xs ++ x ∷ []) ≡ sum_z f xs +ℤ f x
@@ -13,42 +17,52 @@ module _ {X : Type 0} (f : X → ℤ) where
   sum_z_push (y ∷ ys) x = omega (arith, ints, sum_z_push ys x)
 
   -- one more element, as a loop takes it
-  pub sum_z_more : (xs : List X) (i : ℕ) (d : X) → i < length xs → sum_z f (take (i + 1) xs) ≡ sum_z f (take i xs) +ℤ f (get_or xs i d)
+  sum_z_more : (xs : List X) (i : ℕ) (d : X) → i < length xs → sum_z f (take (i + 1) xs) ≡ sum_z f (take i xs) +ℤ f (get_or xs i d)
   sum_z_more xs i d h = ap (sum_z f) (take_more xs i d h) ∙ sum_z_push (take i xs) (get_or xs i d)
 
-  pub sum_z_small : (b : ℕ) (xs : List X) → AllByRecursion (λ x. nat_abs (f x) ≤ b) xs → nat_abs (sum_z f xs) ≤ length xs * b
+  sum_z_small : (b : ℕ) (xs : List X) → AllByRecursion (λ x. nat_abs (f x) ≤ b) xs → nat_abs (sum_z f xs) ≤ length xs * b
   sum_z_small b [] a = omega arith
   sum_z_small b (x ∷ xs) a = omega (arith, a.0, sum_z_small b xs a.1, abs_plus (f x) (sum_z f xs), add-mul 1 (length xs) b)
 
-  pub sum_z_times_right : (m : ℤ) (xs : List X) → sum_z f xs *ℤ m ≡ sum_z (λ x. f x *ℤ m) xs
-  sum_z_times_right m [] = zero-*ℤ m
-  sum_z_times_right m (x ∷ xs) = plus_times (f x) (sum_z f xs) m ∙ ap (λ z. f x *ℤ m +ℤ z) (sum_z_times_right m xs)
+here_small : (n : ℕ) (t : Term) (u : ℕ) → Fine n t → nat_abs (cond (eqb t.unknown u) t.times (pos 0)) ≤ 1048576
+here_small n t u f = let s = f.small in elim (eqb t.unknown u) as (λ b. nat_abs (cond b t.times (pos 0)) ≤ 1048576) [ true ↦ s | false ↦ omega arith ]
 
-  pub sum_z_same : (g : X → ℤ) (xs : List X) → AllByRecursion (λ x. f x ≡ g x) xs → sum_z f xs ≡ sum_z g xs
-  sum_z_same g [] a = refl
-  sum_z_same g (x ∷ xs) a = omega (arith, ints, a.0, sum_z_same g xs a.1)
+-- what the terms of a row multiply an unknown by is small
+pub coefficient_small : (n : ℕ) (ts : List Term) (u : ℕ) → AllByRecursion (Fine n) ts → length ts ≤ 34 → nat_abs (coefficient ts u) ≤ 34 * 1048576
+coefficient_small n ts u a l =
+    omega (arith, sum_z_small (λ t. cond (eqb t.unknown u) t.times (pos 0)) 1048576 ts (All-weaker (Fine n) _ (λ t f. here_small n t u f) ts a), mul-le-mul_right 1048576 l)
 
-  pub sum_z_le : (g : X → ℤ) (xs : List X) → ((x : X) → f x ≤ℤ g x) → sum_z f xs ≤ℤ sum_z g xs
-  sum_z_le g [] h = omega (arith, ints)
-  sum_z_le g (x ∷ xs) h = omega (arith, ints, h x, sum_z_le g xs h)
+put_same : (S : List ℤ) (j k : ℕ) (v : ℤ) → j ≡ k → j < length S → get_or (set S j v) k (pos 0) ≡ v
+put_same S j k v e h = subst (λ (n : ℕ). get_or (set S j v) n (pos 0) ≡ v) e (get_or-set_same S j v (pos 0) h)
 
-pub sum_to_same : (f g : ℕ → ℤ) (n : ℕ) → ((u : ℕ) → 1 ≤ u → u ≤ n → f u ≡ g u) → sum_to f n ≡ sum_to g n
-sum_to_same f g zero h = refl
-sum_to_same f g (suc n) h = omega (arith, ints, sum_to_same f g n (λ u a b. h u a (omega arith)), h (suc n) (omega arith) (omega arith))
+-- one term more is added at its place: every sum has it
+pub term_more : (S S₀ : List ℤ) (ts : List Term) (i : ℕ) (d : Term) (m : ℤ) → length S ≡ length S₀ → i < length ts → 1 ≤ (get_or ts i d).unknown → (get_or ts i d).unknown ≤ length S
+    → ((k : ℕ) → k < length S₀ → get_or S k (pos 0) ≡ get_or S₀ k (pos 0) +ℤ m *ℤ coefficient (take i ts) (k + 1))
+    → (k : ℕ) → k < length S₀ → get_or (set S ((get_or ts i d).unknown - 1) (get_or S ((get_or ts i d).unknown - 1) (pos 0) +ℤ m *ℤ (get_or ts i d).times)) k (pos 0) ≡ get_or S₀ k (pos 0) +ℤ m *ℤ coefficient (take (i + 1) ts) (k + 1)
+term_more S S₀ ts i d m same lt low high inv k h =
+    let u : ℕ = (get_or ts i d).unknown in
+    let q : ℤ = (get_or ts i d).times in
+    let old = coefficient (take i ts) (k + 1) in
+    let was = inv k h in
+    let v : ℤ = get_or S (u - 1) (pos 0) +ℤ m *ℤ q in
+    let more : coefficient (take (i + 1) ts) (k + 1) ≡ old +ℤ cond (eqb u (k + 1)) q (pos 0) = sum_z_more _ ts i d lt in
+    rw more (⊎_elim
+    (λ (p : (eqb u (k + 1) ≡ true) × (u ≡ k + 1)).
+    let at : u - 1 ≡ k = omega (arith, p.1) in
+    let e : get_or S (u - 1) (pos 0) ≡ get_or S k (pos 0) = ap (λ n. get_or S n (pos 0)) at in
+    put_same S (u - 1) k v at (omega arith) ∙ ap (λ z. z +ℤ m *ℤ q) (e ∙ was) ∙ +ℤ_assoc (get_or S₀ k (pos 0)) (m *ℤ old) (m *ℤ q)
+    ∙ ap (λ z. get_or S₀ k (pos 0) +ℤ z) (sym (times_plus m old q)) ∙ ap (λ b. get_or S₀ k (pos 0) +ℤ m *ℤ (old +ℤ cond b q (pos 0))) (sym p.0))
+    (λ (p : (eqb u (k + 1) ≡ false) × (u ≡ k + 1 → ⊥)).
+    let ne : k ≢ u - 1 = λ e. p.1 (omega arith) in
+    get_or-set_other S (u - 1) k v (pos 0) ne ∙ was
+    ∙ ap (λ z. get_or S₀ k (pos 0) +ℤ m *ℤ z) (sym (+ℤ_idr old)) ∙ ap (λ b. get_or S₀ k (pos 0) +ℤ m *ℤ (old +ℤ cond b q (pos 0))) (sym p.0))
+    (eqb_tells u (k + 1)))
 
-sum_to_plus : (f g : ℕ → ℤ) (n : ℕ) → sum_to (λ u. f u +ℤ g u) n ≡ sum_to f n +ℤ sum_to g n
-sum_to_plus f g zero = refl
-sum_to_plus f g (suc n) = omega (arith, ints, sum_to_plus f g n)
+-- a sum after part of a row
+pub sum_within : (z z₀ : ℤ) (b m : ℕ) (c : ℤ) → z ≡ z₀ +ℤ pos m *ℤ c → nat_abs z₀ ≤ b → m ≤ 1048576 → nat_abs c ≤ 34 * 1048576 → nat_abs z ≤ b + 34 * 2 ^ 40
+sum_within z z₀ b m c e a h d = rw e (omega (arith, abs_plus z₀ (pos m *ℤ c), abs_times (pos m) c 1048576 (34 * 1048576) h d))
 
-pub sum_to_zero : (n : ℕ) → sum_to (λ u. pos 0) n ≡ pos 0
-sum_to_zero zero = refl
-sum_to_zero (suc n) = omega (arith, ints, sum_to_zero n)
-
-pub sum_to_times : (m : ℤ) (f : ℕ → ℤ) (n : ℕ) → m *ℤ sum_to f n ≡ sum_to (λ u. m *ℤ f u) n
-sum_to_times m f zero = *ℤ-zero m
-sum_to_times m f (suc n) = times_plus m (sum_to f n) (f (suc n)) ∙ ap (λ z. z +ℤ m *ℤ f (suc n)) (sum_to_times m f n)
-
--- two sums, in either order
-pub sum_to_sum_z : {X : Type 0} (f : X → ℕ → ℤ) (xs : List X) (n : ℕ) → sum_to (λ u. sum_z (λ x. f x u) xs) n ≡ sum_z (λ x. sum_to (f x) n) xs
-sum_to_sum_z f [] n = sum_to_zero n
-sum_to_sum_z f (x ∷ xs) n = sum_to_plus (f x) (λ u. sum_z (λ x. f x u) xs) n ∙ ap (λ z. sum_to (f x) n +ℤ z) (sum_to_sum_z f xs n)
+-- all sums after a row
+pub all_within : (S S₀ : List ℤ) (b m : ℕ) (c : ℕ → ℤ) → length S ≡ length S₀ → ((k : ℕ) → k < length S₀ → get_or S k (pos 0) ≡ get_or S₀ k (pos 0) +ℤ pos m *ℤ c (k + 1)) → AllByRecursion (λ z. nat_abs z ≤ b) S₀ → m ≤ 1048576 → ((u : ℕ) → nat_abs (c u) ≤ 34 * 1048576) → AllByRecursion (λ z. nat_abs z ≤ b + 34 * 2 ^ 40) S
+all_within S S₀ b m c same e a h d =
+    All-from_get_or _ S (pos 0) (λ k l. sum_within (get_or S k (pos 0)) (get_or S₀ k (pos 0)) b m (c (k + 1)) (e k (omega arith)) (All-get_or _ S₀ k (pos 0) (omega arith) a) h (d (k + 1)))

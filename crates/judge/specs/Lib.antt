@@ -1,6 +1,4 @@
 pub mod Refusals
-pub mod Programs
 pub mod Papers
-pub mod Judging
-pub mod Rest
-pub mod Laws
+pub mod Sums
+pub mod Outcomes

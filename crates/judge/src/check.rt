@@ -1,14 +1,9 @@
 // Checks the lines of a paper before any of them is weighed.
-ghost use Rattle.std.specs.Prelude.{◌≡◌, ◌+◌, ◌≤◌, length};
-ghost use Rattle.kind.specs.Kind.{row_count};
-ghost use Rattle.text.specs.Continue.{KeptOk, ok_as};
-ghost use Rattle.judge.specs.Papers.{Checking, entry_step, read_weights};
-ghost use Rattle.judge.specs.Programs.{program};
-ghost use Rattle.judge.specs.Rest.{left, Ready};
+ghost use Rattle.std.specs.Prelude.{◌≡◌, ◌+◌, ◌^◌, ◌<◌, length};
+ghost use Rattle.judge.specs.Papers.{Checking, check_lines, entry_step};
 
 use crate::line::entry_of;
-use crate::lines::Lines;
-use kind::sheet::Sheet;
+use sheet::sheet::Sheet;
 use text::fault::Fault;
 use text::lines::{LineSink, read_lines};
 
@@ -23,7 +18,7 @@ pub struct LineCheck<'a, S> {
 impl<'a, S: Sheet> LineSink for LineCheck<'a, S> {
     ghost model = { Checking };
 
-    ghost view = { λ c. record { places = (S.Sheet.meaning c.sheet.now).places; rows = row_count (S.Sheet.meaning c.sheet.now); place = c.place; lines = c.lines } };
+    ghost view = { λ c. record { places = (S.Sheet.meaning c.sheet.now).places; rows = (S.Sheet.meaning c.sheet.now).rows; place = c.place; lines = c.lines } };
 
     ghost step = { entry_step };
 
@@ -47,15 +42,10 @@ impl<'a, S: Sheet> LineSink for LineCheck<'a, S> {
     }
 }
 
-// The lines of a text, whose first has the number `first`, once all are in order.
-pub(crate) fn check_lines<'a, S: Sheet>(
-    sheet: &S,
-    text: &'a [u8],
-    first: u32,
-) -> Result<Lines<'a>, Fault>
-    requires { first + length text.now ≤ 131072 }
-    ensures lines { ok_as left result ≡ read_weights (S.Sheet.meaning sheet.now).places (row_count (S.Sheet.meaning sheet.now)) first text.now }
-    ensures ready { KeptOk (Ready (program (S.Sheet.meaning sheet.now)) 1) result }
+// Checks all lines of a text, whose first has the number `first`.
+pub fn check_lines<S: Sheet>(sheet: &S, text: &[u8], first: u32) -> Result<(), Fault>
+    requires { first + length text.now < 2 ^ 32 }
+    ensures { result ≡ check_lines (S.Sheet.meaning sheet.now).places (S.Sheet.meaning sheet.now).rows first text.now }
 {
     let mut check = LineCheck {
         sheet,
@@ -63,5 +53,5 @@ pub(crate) fn check_lines<'a, S: Sheet>(
         lines: 0,
     };
     read_lines(&mut check, text, first)?;
-    Ok(Lines { text, line: first })
+    Ok(())
 }

@@ -5,7 +5,7 @@ ghost use Rattle.judge.specs.Refusals.{judge_refusal};
 
 use text::fault::{Fault, Refusal};
 
-#[derive(Clone, Copy, Debug)]
+#[derive(Clone, Copy, Debug, PartialEq, Eq)]
 pub enum JudgeFault {
     // The paper's text is not in order.
     Reading(Fault),

@@ -1,10 +1,8 @@
 // Judges a paper's lines, place by place.
-ghost use Rattle.std.specs.Prelude.{◌≡◌, ◌≤◌, length, Ok};
+ghost use Rattle.std.specs.Prelude.{◌≡◌, ◌≤◌, length, drop};
 ghost use Rattle.text.specs.Continue.{KeptOk, ok_as};
-ghost use Rattle.judge.specs.Judging.{judge_answer, judge_leaves, judgement, Shows, sums_by};
-ghost use Rattle.judge.specs.Papers.{check_paper};
-ghost use Rattle.judge.specs.Programs.{program};
-ghost use Rattle.judge.specs.Rest.{left, Ready};
+ghost use Rattle.judge.specs.Outcomes.{Judged, Shown};
+ghost use Rattle.judge.specs.Papers.{bytes_of, check_paper, Short};
 
 use crate::check::check_lines;
 use crate::fault::JudgeFault;
@@ -12,8 +10,8 @@ use crate::line::entry_names;
 use crate::lines::Lines;
 use crate::stated::Stated;
 use crate::weigh::judge_place;
-use kind::row::Row;
-use kind::sheet::Sheet;
+use sheet::row::Row;
+use sheet::sheet::Sheet;
 use text::lines::first_line;
 
 // The lines after the line of names, once all are in order and `room` sums are enough.
@@ -25,16 +23,19 @@ fn check_paper<'a, S: Sheet>(
 ) -> Result<Lines<'a>, JudgeFault>
     requires short { length text.now ≤ 65536 }
     requires first { first ≤ 65536 }
-    ensures lines { ok_as left result ≡ check_paper (program (S.Sheet.meaning sheet.now)) room first text.now }
-    ensures ready { KeptOk (Ready (program (S.Sheet.meaning sheet.now)) 1) result }
+    ensures lines { ok_as bytes_of result ≡ check_paper (S.Sheet.meaning sheet.now) room first text.now }
+    ensures short { KeptOk Short result }
 {
     let (names, rest) = first_line(text, first)?;
     entry_names(names, first)?;
-    let lines = check_lines(sheet, rest, first + 1)?;
+    check_lines(sheet, rest, first + 1)?;
     if room < sheet.unknowns() as usize {
         return Err(JudgeFault::MemoryTooShort);
     }
-    Ok(lines)
+    Ok(Lines {
+        text: rest,
+        line: first + 1,
+    })
 }
 
 // Judges every place in turn, up to the first that is refused, with one sum for each unknown.
@@ -44,11 +45,9 @@ fn judge_places<S: Sheet>(
     lines: Lines,
     sums: &mut [i64],
 ) -> Result<(), JudgeFault>
-    requires ready { Ready (program (S.Sheet.meaning sheet.now)) 1 lines }
+    requires short { Short lines }
     requires room { length sums.old ≡ (S.Sheet.meaning sheet.now).unknowns }
-    ensures answer { result ≡ judgement (program (S.Sheet.meaning sheet.now)) stated.scale stated.claim (left lines.entry) }
-    ensures memory { sums.new ≡ sums_by (program (S.Sheet.meaning sheet.now)) (left lines.entry) result sums.old }
-    ensures sound { result ≡ Ok tt → Shows (S.Sheet.meaning sheet.now) stated.claim }
+    ensures { Shown (S.Sheet.meaning sheet.now) stated.scale sums.new result }
 {
     let places = sheet.places();
     let mut out = Row::blank();
@@ -60,8 +59,7 @@ fn judge_places<S: Sheet>(
 }
 
 // Judges the text that begins with a paper's line of names, which has the number `first`. The sums of the last place that was judged
-// stand at the front of `sums`, and the rest of it stays as it was: all of it where nothing was judged. A paper that passes shows its
-// claim on every history that the sheet covers.
+// stand at the front of `sums`, and the rest of it stays as it was: all of it where nothing was judged.
 pub fn judge<S: Sheet>(
     sheet: &S,
     stated: Stated,
@@ -71,9 +69,8 @@ pub fn judge<S: Sheet>(
 ) -> Result<(), JudgeFault>
     requires short { length text.now ≤ 65536 }
     requires first { first ≤ 65536 }
-    ensures answer { result ≡ judge_answer (program (S.Sheet.meaning sheet.now)) stated.scale stated.claim (length sums.old) first text.now }
-    ensures memory { sums.new ≡ judge_leaves (program (S.Sheet.meaning sheet.now)) stated.scale stated.claim first text.now sums.old }
-    ensures sound { result ≡ Ok tt → Shows (S.Sheet.meaning sheet.now) stated.claim }
+    ensures rest { drop (S.Sheet.meaning sheet.now).unknowns sums.new ≡ drop (S.Sheet.meaning sheet.now).unknowns sums.old }
+    ensures judged { Judged (S.Sheet.meaning sheet.now) stated.scale (check_paper (S.Sheet.meaning sheet.now) (length sums.old) first text.now) result sums.old sums.new }
 {
     let lines = check_paper(sheet, text, first, sums.len())?;
     let unknowns = sheet.unknowns() as usize;

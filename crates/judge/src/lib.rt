@@ -5,7 +5,6 @@ pub mod check;
 pub mod entry;
 pub mod fault;
 pub mod judge;
-pub mod laws;
 pub mod line;
 pub mod lines;
 pub mod stated;

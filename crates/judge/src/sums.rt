@@ -1,14 +1,14 @@
 // The sums of the unknowns, in memory that the caller lends: the sum of the unknown k stands at k - 1.
 ghost use Rattle.std.specs.Prelude.{◌≡◌, ℕ, ◌+◌, ◌-◌, ◌*◌, ◌^◌, ◌<◌, ◌≤◌, length, pos, ◌+ℤ◌, ◌*ℤ◌, int_lt, slice_index_or, slice_set, unsigned_abs};
 ghost use Rattle.std.specs.List.{AllByRecursion};
-ghost use Rattle.kind.specs.Kind.{Limits};
-ghost use Rattle.kind.specs.Rows.{coefficient, Fine, Neat, says, terms_of};
-ghost use Rattle.judge.specs.Judging.{lowest, misses};
+ghost use Rattle.sheet.specs.Kind.{Limits};
+ghost use Rattle.sheet.specs.Rows.{Fine, Fits, terms_of};
+ghost use Rattle.judge.specs.Sums.{coefficient, lowest, misses};
 
-use kind::row::{Row, Term};
-use kind::sheet::Sheet;
+use sheet::row::{Row, Term};
+use sheet::sheet::Sheet;
 
-pub(crate) fn clear(sums: &mut [i64])
+pub fn clear(sums: &mut [i64])
     ensures { (k : ℕ) → k < length sums.new → slice_index_or sums.new k (pos 0) ≡ pos 0 }
 {
     for sum in sums.iter_mut() {
@@ -16,7 +16,7 @@ pub(crate) fn clear(sums: &mut [i64])
     }
 }
 
-pub(crate) fn scaled(factor: u32, z: i64) -> i64
+pub fn scaled(factor: u32, z: i64) -> i64
     requires factor { factor ≤ 1048576 }
     requires number { unsigned_abs z ≤ 2 ^ 25 }
     ensures { result ≡ pos factor *ℤ z }
@@ -24,14 +24,14 @@ pub(crate) fn scaled(factor: u32, z: i64) -> i64
     i64::from(factor) * z
 }
 
-pub(crate) fn below(a: i64, b: i64) -> bool
+pub fn below(a: i64, b: i64) -> bool
     ensures { result ≡ int_lt a b }
 {
     a < b
 }
 
 // Adds so many times one term to the sum of its unknown.
-pub(crate) fn add_term(sums: &mut [i64], times: u32, term: Term)
+pub fn add_term(sums: &mut [i64], times: u32, term: Term)
     requires fine { Fine (length sums.old) term }
     requires few { times ≤ 1048576 }
     requires small { unsigned_abs (slice_index_or sums.old (term.unknown - 1) (pos 0)) ≤ 2 ^ 62 + 2 ^ 46 }
@@ -41,11 +41,12 @@ pub(crate) fn add_term(sums: &mut [i64], times: u32, term: Term)
 }
 
 // Adds so many times the row to the sums.
-pub(crate) fn add_row(row: &Row, times: u32, sums: &mut [i64])
-    requires neat { Neat (length sums.old) (says row.now) }
+pub fn add_row(row: &Row, times: u32, sums: &mut [i64])
+    requires fits { Fits (length sums.old) row.now }
     requires few { times ≤ 1048576 }
     requires small { AllByRecursion (λ z. unsigned_abs z ≤ 2 ^ 62) sums.old }
-    ensures { (k : ℕ) → k < length sums.old → slice_index_or sums.new k (pos 0) ≡ slice_index_or sums.old k (pos 0) +ℤ pos times *ℤ coefficient (terms_of row.now) (k + 1) }
+    ensures added { (k : ℕ) → k < length sums.old → slice_index_or sums.new k (pos 0) ≡ slice_index_or sums.old k (pos 0) +ℤ pos times *ℤ coefficient (terms_of row.now) (k + 1) }
+    ensures bound { (b : ℕ) → AllByRecursion (λ z. unsigned_abs z ≤ b) sums.old → AllByRecursion (λ z. unsigned_abs z ≤ b + 34 * 2 ^ 40) sums.new }
 {
     let terms = row.terms();
     for term in terms {
@@ -54,7 +55,7 @@ pub(crate) fn add_row(row: &Row, times: u32, sums: &mut [i64])
 }
 
 // The lowest unknown whose sum is not scale times what the goal multiplies it by.
-pub(crate) fn find_miss<S: Sheet>(sheet: &S, scale: u32, sums: &[i64]) -> Option<u32>
+pub fn find_miss<S: Sheet>(sheet: &S, scale: u32, sums: &[i64]) -> Option<u32>
     requires limits { Limits (S.Sheet.meaning sheet.now) }
     requires scale { scale ≤ 1048576 }
     requires room { length sums.now ≡ (S.Sheet.meaning sheet.now).unknowns }

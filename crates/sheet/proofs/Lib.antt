@@ -1,10 +1,3 @@
-pub mod ListLaws
-pub mod AskedLaws
-pub mod StreamRowLaws
-pub mod CutLaws
-pub mod KeptLaws
+pub mod Terms
+pub mod Counts
 pub mod GoalLaws
-pub mod CrossLaws
-pub mod RelayLaws
-pub mod PartLaws
-pub mod DelayLaws

@@ -1,3 +1,4 @@
-pub mod Asked
+pub mod Rows
+pub mod Kind
 pub mod Parts
-pub mod Delays
+pub mod Kinds

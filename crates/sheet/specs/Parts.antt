@@ -1,29 +1,12 @@
--- What the values of the code stand for in the plain numbers of a chain.
-use Rattle.std.specs.Prelude.{◌≡◌, ℕ, suc, ◌+◌, ◌*◌, ◌/◌, ◌≤◌, min, List, [], ◌∷◌, ◌++◌, map}
-use Rattle.chain.specs.Plan.{Plan, Serves, StreamPlan, arrival_plan, plan_of, stream_plan}
+-- The part of a chain that leads to one relay, and how many unknowns it has.
+use Rattle.std.specs.Prelude.{◌≡◌, ℕ, ◌+◌, ◌-◌, ◌*◌, ◌/◌, ◌≤◌, min, cond, List, [], ◌∷◌, length, take, nat_le}
+use Rattle.chain.specs.Curves.{lines_of}
+use Rattle.chain.specs.Shape.{next, hops}
+use Rattle.chain.specs.Views.{relays_of, streams_of}
+use Rattle.chain.specs.declared.chain.Chain.{Chain}
+use Rattle.chain.specs.declared.stream.Relay.{Relay}
 use Rattle.chain.specs.declared.stream.Stream.{Stream}
 use Rattle.chain.specs.declared.stretch.Stretch.{Stretch}
-use Rattle.model.specs.Parts.{cut_streams, part}
-use Rattle.model.specs.SheetRows.{each}
-use Rattle.sheet.specs.declared.kept.Kept.{Kept}
-use Rattle.sheet.specs.declared.kept.pair.Pair.{Pair}
-use Rattle.sheet.specs.declared.part.Part.{Part}
-
--- the relays and streams that a part has
-abbrev pub part_plan : Part → Plan
-part_plan p = part (plan_of p.chain.now) p.last
-
--- the stream that a part has of a stream of the chain
-abbrev pub kept_plan : Kept → StreamPlan
-kept_plan k = record { from = k.stretch.from; to = k.stretch.to; lines = arrival_plan k.curve.now }
-
--- what a part that ends at a relay has of some streams: each cut after the relay, none that begin later
-abbrev pub kept_all : ℕ → List Stream → List StreamPlan
-kept_all last ss = cut_streams last (map stream_plan ss)
-
--- of one stream
-abbrev pub kept_of : ℕ → Stream → List StreamPlan
-kept_of last s = kept_all last (s ∷ [])
 
 -- what is left of a stretch that begins at or before the last relay of the part
 pub record Cut (s : Stretch) (last : ℕ) (kept : Stretch) : Type 0 where
@@ -31,6 +14,26 @@ pub record Cut (s : Stretch) (last : ℕ) (kept : Stretch) : Type 0 where
   pub same_from : kept.from ≡ s.from
   pub cut_to : kept.to ≡ min s.to last
   pub same_relays : kept.relays ≡ s.relays
+
+-- an in and an out value at each relay of a stretch and after the last
+abbrev pub values : Stretch → ℕ
+values s = 2 * (hops s + 1)
+
+-- how many relays of a stretch that begins at or before the last relay are in the part
+abbrev pub kept_hops : ℕ → Stretch → ℕ
+kept_hops last s = next (min s.to last) - s.from
+
+-- how many unknowns a stretch has in the part; none if it begins after the last relay
+abbrev pub width_of : ℕ → Stretch → ℕ
+width_of last s = cond (nat_le s.from last) (2 * (kept_hops last s + 1)) 0
+
+abbrev pub widths : ℕ → List Stream → ℕ
+widths last [] = 0
+widths last (s ∷ ss) = width_of last s.stretch + widths last ss
+
+-- a date for each relay and one after the last, then the values of each stream
+abbrev pub part_unknowns : Chain → ℕ → ℕ
+part_unknowns c last = next last + widths last (streams_of c)
 
 -- pairs of different nodes on a stretch of so many relays
 abbrev pub pairs_of : ℕ → ℕ
@@ -40,11 +43,18 @@ pairs_of k = k * (k + 1) / 2
 abbrev pub rows_of : ℕ → ℕ → ℕ
 rows_of k m = 1 + (k + 1) + k + k + m * pairs_of k
 
--- the two nodes of a pair, on a stretch that begins at a
-abbrev pub nodes_of : ℕ → Pair → ℕ × ℕ
-nodes_of a p = (a + p.first, a + p.second)
+abbrev pub stream_rows : ℕ → Stream → ℕ
+stream_rows last s = cond (nat_le s.stretch.from last) (rows_of (kept_hops last s.stretch) (length (lines_of s.curve))) 0
 
--- the lines of relays one after the other, each with the number of its relay; the first relay has the number j
-abbrev pub numbered : ℕ → List (List Serves) → List (ℕ × Serves)
-numbered j [] = []
-numbered j (ls ∷ more) = each ls (λ l. (j, l) ∷ []) ++ numbered (suc j) more
+abbrev pub streams_rows : ℕ → List Stream → ℕ
+streams_rows last [] = 0
+streams_rows last (s ∷ ss) = stream_rows last s + streams_rows last ss
+
+-- a row for each line of each relay
+abbrev pub relays_rows : List Relay → ℕ
+relays_rows [] = 0
+relays_rows (r ∷ rs) = length (lines_of r.curve) + relays_rows rs
+
+-- the dates never fall, the relays serve, and the rows of each stream
+abbrev pub part_rows : Chain → ℕ → ℕ
+part_rows c last = last + relays_rows (take last (relays_of c)) + streams_rows last (streams_of c)

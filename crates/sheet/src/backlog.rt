@@ -1,7 +1,6 @@
 // The sheet that bounds the backlog of one relay.
-ghost use Rattle.std.specs.Prelude.{◌≡◌, length};
-ghost use Rattle.model.specs.SheetRows.{base_rows};
-ghost use Rattle.sheet.specs.Parts.{part_plan};
+ghost use Rattle.std.specs.Prelude.{◌≡◌, ◌≤◌};
+ghost use Rattle.sheet.specs.Parts.{part_rows};
 
 use crate::part::Part;
 
@@ -13,5 +12,6 @@ pub mod waiting;
 pub struct BacklogSheet<'a> {
     part: Part<'a>,
     rows: u32,
-    ghost all_rows: { rows ≡ length (base_rows (part_plan part)) },
+    ghost all_rows: { rows ≡ part_rows part.chain.now part.last },
+    ghost few_rows: { rows ≤ 4096 },
 }

@@ -5,3 +5,5 @@ pub mod backlog;
 pub mod delay;
 pub mod kept;
 pub mod part;
+pub mod row;
+pub mod sheet;

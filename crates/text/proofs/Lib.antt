@@ -3,4 +3,4 @@ pub mod WordLaws
 pub mod CutLaws
 pub mod SeatLaws
 pub mod LineLaws
-pub mod NumberLaws
+pub mod DigitLaws

@@ -1,5 +1,5 @@
 -- Laws of `read_lines`.
-use Rattle.std.proofs.Common.{◌≡◌, ℕ, ◌+◌, List, [], IsErrAnd, Some, None, Ok, Err, Option, Result, sym, refl, ap, ◌∙◌}
+use Rattle.std.proofs.Common.{◌≡◌, ℕ, ◌+◌, List, IsErrAnd, Some, None, Ok, Err, Option, Result, sym, refl, ap, ◌∙◌}
 use Rattle.text.specs.declared.fault.Fault.{Fault}
 use Rattle.text.specs.Continue.{and_then}
 use Rattle.text.specs.Lines.{last_or, end_of, at_end, read_lines, TookAll}
@@ -11,7 +11,7 @@ parted_more s xs None x y = refl
 parted_more s xs (Some p) x y = refl
 
 -- there is always a piece
-pub more_pieces : {A : Type 0} (s : ℕ) (xs : List ℕ) (x y : A) → last_or (pieces s xs) x y ≡ y
+more_pieces : {A : Type 0} (s : ℕ) (xs : List ℕ) (x y : A) → last_or (pieces s xs) x y ≡ y
 more_pieces s xs x y = ap (λ l. last_or l x y) (pieces_cut s xs) ∙ parted_more s xs (cut_at s xs) x y
 
 module _ {S : Type 0} (f : S → ℕ → List ℕ → Result S Fault) where

@@ -6,4 +6,4 @@ pub mod Continue
 pub mod Read
 pub mod Lines
 pub mod Seats
-pub mod Numbers
+pub mod Written

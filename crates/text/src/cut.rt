@@ -32,7 +32,7 @@ struct Rest<'a> {
 }
 
 // The piece with the number k, from 0, of those that the bytes `stop` part.
-pub(crate) fn piece<'a>(text: &'a [u8], stop: u8, k: usize) -> Option<&'a [u8]>
+pub fn piece<'a>(text: &'a [u8], stop: u8, k: usize) -> Option<&'a [u8]>
     ensures bytes { holds result ≡ at (pieces stop text.now) k }
     ensures seats { seated result ≡ at (parts stop (seat text.entry)) k }
 {
@@ -50,7 +50,7 @@ pub(crate) fn piece<'a>(text: &'a [u8], stop: u8, k: usize) -> Option<&'a [u8]>
 }
 
 // How many bytes `stop` there are: one less than pieces.
-pub(crate) fn count(text: &[u8], stop: u8) -> usize
+pub fn count(text: &[u8], stop: u8) -> usize
     ensures exact { result + 1 ≡ length (pieces stop text.now) }
     ensures bound { result ≤ length text.now }
 {
@@ -75,7 +75,7 @@ pub fn word_count(row: &[u8]) -> usize
 }
 
 // The word with the number k, from 0, of a line.
-pub(crate) fn nth_word<'a>(row: &'a [u8], k: usize) -> Option<&'a [u8]>
+pub fn nth_word<'a>(row: &'a [u8], k: usize) -> Option<&'a [u8]>
     ensures bytes { holds result ≡ at (words row.now) k }
     ensures seats { seated result ≡ at (word_seats (seat row.entry)) k }
 {

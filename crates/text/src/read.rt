@@ -8,7 +8,7 @@ use crate::fault::Fault;
 use crate::word::word_of;
 
 // Whether two texts have the same bytes.
-pub(crate) fn same(a: &[u8], b: &[u8]) -> bool
+pub fn same(a: &[u8], b: &[u8]) -> bool
     ensures { result ≡ bytes_eq a.now b.now }
 {
     a == b

@@ -1,19 +1,18 @@
 // Entering a verdict, and asking for a quote.
 ghost use Rattle.std.specs.Prelude.{◌≡◌};
-ghost use Rattle.book.specs.Calls.{enter_answer, EnterLeaves, quote_answer};
-ghost use Rattle.book.specs.States.{granted, state_of};
+ghost use Rattle.book.specs.Books.{enter_answer, EnterLeaves, quote_answer};
 
 use crate::book::Book;
 use crate::fault::BookFault;
+use crate::goal::Goal;
+use crate::paper::has_place;
 use crate::verdict::Verdict;
-use paper::first_lines::has_place;
-use paper::goal::Goal;
 
 impl Book {
     // Lets the claim of a verdict stand, unless a smaller one does, and answers the one that stands then.
     pub fn enter(&mut self, verdict: Verdict) -> Result<u32, BookFault>
-        ensures answer { result ≡ enter_answer (state_of self.old) (granted verdict) }
-        ensures leaves { EnterLeaves self.old (granted verdict) result self.new }
+        ensures answer { result ≡ enter_answer self.old verdict }
+        ensures leaves { EnterLeaves self.old verdict result self.new }
     {
         if self.chain.is_none() {
             return Err(BookFault::NoChain);
@@ -26,7 +25,7 @@ impl Book {
 
     // The claim that stands for a goal, if one does.
     pub fn quote(&self, goal: Goal, at: u32) -> Result<Option<u32>, BookFault>
-        ensures { result ≡ quote_answer (state_of self.now) goal at }
+        ensures { result ≡ quote_answer self.now goal at }
     {
         match &self.chain {
             Some(chain) => {

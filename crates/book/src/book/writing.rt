@@ -1,19 +1,36 @@
 // Writing quotes and rows into lent memory.
-ghost use Rattle.std.specs.Prelude.{◌≡◌};
-ghost use Rattle.book.specs.Calls.{quotes_answer, quotes_leave, row_answer, row_leaves};
-ghost use Rattle.book.specs.States.{state_of};
+ghost use Rattle.std.specs.Prelude.{◌≡◌, None, Err};
+ghost use Rattle.book.specs.declared.fault.BookFault.TheVariants.{NoChain};
+ghost use Rattle.book.specs.Books.{quotes_answer, quotes_leave};
+ghost use Rattle.book.specs.Written.{Wrote};
 
 use crate::book::Book;
 use crate::fault::BookFault;
+use crate::goal::Goal;
+use crate::paper::has_place;
+use crate::rows::row_page;
 use crate::write::{put_page, quotes_page};
-use paper::goal::Goal;
-use paper::rows::row_text;
+use chain::chain::Chain;
+use sheet::backlog::BacklogSheet;
+use sheet::delay::DelaySheet;
+use text::page::Page;
+
+// The text of a row of the sheet of a goal, if there is such a row.
+fn row_text(chain: &Chain, goal: Goal, at: u32, place: u32, row: u32) -> Option<Page> {
+    if !has_place(chain, goal, at) {
+        return None;
+    }
+    match goal {
+        Goal::Delay => row_page(&DelaySheet::new(chain), place, row),
+        Goal::Backlog => row_page(&BacklogSheet::new(chain, at)?, place, row),
+    }
+}
 
 impl Book {
     // Writes the quotes that stand, and answers the length of their text.
     pub fn write_quotes(&self, out: &mut [u8]) -> Result<usize, BookFault>
-        ensures answer { result ≡ quotes_answer (state_of self.now) out.old }
-        ensures after { out.new ≡ quotes_leave (state_of self.now) out.old }
+        ensures answer { result ≡ quotes_answer self.now out.old }
+        ensures after { out.new ≡ quotes_leave self.now out.old }
     {
         if self.chain.is_none() {
             return Err(BookFault::NoChain);
@@ -30,8 +47,8 @@ impl Book {
         row: u32,
         out: &mut [u8],
     ) -> Result<usize, BookFault>
-        ensures answer { result ≡ row_answer (state_of self.now) goal at place row out.old }
-        ensures after { out.new ≡ row_leaves (state_of self.now) goal at place row out.old }
+        ensures chain { self.now.chain ≡ None → result ≡ Err NoChain }
+        ensures wrote { Wrote out.old result out.new }
     {
         let Some(chain) = &self.chain else {
             return Err(BookFault::NoChain);

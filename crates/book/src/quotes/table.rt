@@ -1,10 +1,10 @@
 // Reading and lowering quotes.
 ghost use Rattle.std.specs.Prelude.{◌≡◌, true};
-ghost use Rattle.paper.specs.Places.{is_place};
+ghost use Rattle.book.specs.Places.{is_place};
 ghost use Rattle.book.specs.Quotes.{standing, no_quotes, quote_at, lowered, smaller};
 
+use crate::goal::Goal;
 use crate::quotes::Quotes;
-use paper::goal::Goal;
 
 // The smaller of a claim and the one that stands, if one does.
 fn smaller_claim(standing: Option<u32>, claim: u32) -> u32

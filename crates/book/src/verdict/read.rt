@@ -1,8 +1,8 @@
 // What a verdict is about.
 ghost use Rattle.std.specs.Prelude.{◌≡◌};
 
+use crate::goal::Goal;
 use crate::verdict::Verdict;
-use paper::goal::Goal;
 
 impl Verdict {
     pub fn goal(&self) -> Goal

@@ -1,9 +1,7 @@
 // The relays and streams of a chain.
 ghost use Rattle.std.specs.Prelude.{◌≡◌, ◌≤◌, true, length};
 ghost use Rattle.chain.specs.Keeps.{lie_within, stops_at_end};
-ghost use Rattle.chain.specs.Plan.{plan_of};
 ghost use Rattle.chain.specs.Views.{relays_of, streams_of};
-ghost use Rattle.chain.specs.Walks.{size};
 
 use crate::chain::Chain;
 use crate::stream::{Relay, Stream};
@@ -25,21 +23,5 @@ impl Chain {
         ensures stops { stops_at_end (length (relays_of self.now)) result.now ≡ true }
     {
         self.streams.streams()
-    }
-
-    pub fn relay_count(&self) -> u32
-        ensures value { result ≡ size (plan_of self.now) }
-        ensures some { 1 ≤ result }
-        ensures few { result ≤ 8 }
-    {
-        self.relays().len() as u32
-    }
-
-    pub fn stream_count(&self) -> u32
-        ensures value { result ≡ length (plan_of self.now).streams }
-        ensures some { 1 ≤ result }
-        ensures few { result ≤ 16 }
-    {
-        self.streams().len() as u32
     }
 }

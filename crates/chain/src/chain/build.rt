@@ -1,10 +1,10 @@
-// Making a chain of relays and streams. Only this asks for memory: all the room that a chain may ever need.
-ghost use Rattle.std.specs.Prelude.{◌≡◌, ◌≤◌, true, length, IfOk, vec_len, vec_capacity};
-ghost use Rattle.chain.specs.Keeps.{lie_within, stops_at_end};
-ghost use Rattle.chain.specs.Views.{relays_of, streams_of};
+// Making a chain of a draft. Only this asks for memory: all the room that a chain may ever need.
+ghost use Rattle.std.specs.Prelude.{◌≡◌, ◌≤◌, length, IfOk, vec_len, vec_capacity};
+ghost use Rattle.chain.specs.Plan.{plan_of};
+ghost use Rattle.chain.specs.Texts.{draft_plan};
 
 use crate::chain::Chain;
-use crate::stream::{Relay, Stream};
+use crate::draft::StreamDraft;
 use crate::table::StreamTable;
 use std::alloc::{AllocError, Global};
 
@@ -21,17 +21,12 @@ fn table_of<T: Copy>(heap: Global, room: usize, items: &[T]) -> Result<Vec<T>, A
 }
 
 impl Chain {
-    pub fn build(heap: Global, relays: &[Relay], streams: &[Stream]) -> Result<Chain, AllocError>
-        requires some_relay { 1 ≤ length relays.now }
-        requires few_relays { length relays.now ≤ 8 }
-        requires some_stream { 1 ≤ length streams.now }
-        requires few_streams { length streams.now ≤ 16 }
-        requires lies { lie_within (length relays.now) streams.now ≡ true }
-        requires stops { stops_at_end (length relays.now) streams.now ≡ true }
-        ensures { IfOk result (λ c. (relays_of c ≡ relays.now) × (streams_of c ≡ streams.now)) }
+    pub fn build(heap: Global, draft: &StreamDraft) -> Result<Chain, AllocError>
+        requires { 1 ≤ draft.now.count }
+        ensures { IfOk result (λ c. plan_of c ≡ draft_plan draft.now) }
     {
-        let relays = table_of(heap, 8, relays)?;
-        let table = table_of(heap, 16, streams)?;
+        let relays = table_of(heap, 8, draft.relays.relays())?;
+        let table = table_of(heap, 16, draft.streams())?;
         Ok(Chain {
             relays,
             streams: StreamTable { table },

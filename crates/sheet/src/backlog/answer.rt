@@ -1,15 +1,14 @@
 // What the backlog sheet answers.
 ghost use Rattle.std.specs.Prelude.{◌≡◌, ◌≤◌, length, Some, None};
 ghost use Rattle.chain.specs.Views.{relays_of};
-ghost use Rattle.chain.specs.Plan.{plan_of};
-ghost use Rattle.model.specs.Kinds.{backlog_kind};
+ghost use Rattle.sheet.specs.Kinds.{backlog_kind};
 
 use crate::backlog::BacklogSheet;
 use crate::backlog::waiting::goal_at;
 use crate::part::Part;
+use crate::row::Row;
+use crate::sheet::Sheet;
 use chain::chain::Chain;
-use kind::row::Row;
-use kind::sheet::Sheet;
 
 impl<'a> BacklogSheet<'a> {
     // The sheet of a relay, if there is such a relay.
@@ -27,7 +26,7 @@ impl<'a> BacklogSheet<'a> {
 }
 
 impl Sheet for BacklogSheet<'_> {
-    ghost meaning = { λ s. backlog_kind (plan_of s.part.chain.now) s.part.last };
+    ghost meaning = { λ s. backlog_kind s.part.chain.now s.part.last };
 
     fn places(&self) -> u32 {
         1
@@ -37,8 +36,8 @@ impl Sheet for BacklogSheet<'_> {
         self.part.unknowns()
     }
 
-    fn rows(&self, _place: u32) -> u32 {
-        self.rows
+    fn rows(&self, place: u32) -> u32 {
+        if place == 1 { self.rows } else { 0 }
     }
 
     fn row(&self, place: u32, row: u32, out: &mut Row) -> bool {

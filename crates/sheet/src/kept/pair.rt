@@ -1,18 +1,12 @@
 // The pairs of nodes on a stretch, and the rows that a stream's curve gives for them.
-ghost use Rattle.std.specs.Prelude.{◌≡◌, ℕ, suc, ◌<◌, ◌≤◌, Some, None};
-ghost use Rattle.std.specs.Option.{option_map};
-ghost use Rattle.text.specs.Pieces.{at};
-ghost use Rattle.chain.specs.Plan.{Plan, sends};
-ghost use Rattle.chain.specs.Shape.{hops, next, node};
-ghost use Rattle.chain.specs.Walks.{walk};
-ghost use Rattle.kind.specs.Rows.{says};
-ghost use Rattle.model.specs.SheetRows.{arrival_row, arrival_rows, pairs};
-ghost use Rattle.sheet.specs.Asked.{Asked};
-ghost use Rattle.sheet.specs.Parts.{kept_plan, nodes_of};
+ghost use Rattle.std.specs.Prelude.{◌≡◌, ℕ, ◌+◌, ◌<◌, ◌≤◌, true, false, Some, None};
+ghost use Rattle.chain.specs.Shape.{hops};
+ghost use Rattle.sheet.specs.Parts.{values};
+ghost use Rattle.sheet.specs.Rows.{Fits};
 
 use crate::kept::Kept;
+use crate::row::Row;
 use chain::line::ArrivalLine;
-use kind::row::Row;
 
 // Two positions on a stretch.
 #[derive(Clone, Copy)]
@@ -24,8 +18,7 @@ pub struct Pair {
 // The pair at an index, from 0, on a stretch of so many relays: by the first position, then by the second.
 fn find_pair(relays: u32, index: u32) -> Option<Pair>
     requires { relays ≤ 8 }
-    ensures pair { (a : ℕ) → option_map (nodes_of a) result ≡ at (pairs (walk next (suc relays) a)) index }
-    ensures inside { elim result [ Some p ↦ (p.first < p.second) × (p.second ≤ relays) | None ↦ Unit {0} ] }
+    ensures { elim result [ Some p ↦ (p.first < p.second) × (p.second ≤ relays) | None ↦ Unit {0} ] }
 {
     let mut left = index;
     for first in 0..relays {
@@ -45,7 +38,7 @@ impl Kept<'_> {
     fn write_pair(&self, pair: Pair, line: &ArrivalLine, out: &mut Row)
         requires rises { pair.first < pair.second }
         requires within { pair.second ≤ hops self.now.stretch }
-        ensures { (c : Plan) → says out.new ≡ arrival_row c self.now.offset (kept_plan self.now) (node self.now.stretch pair.first) (node self.now.stretch pair.second) (sends line.now) }
+        ensures { (n : ℕ) → self.now.offset + values self.now.stretch ≤ n → Fits n out.new }
     {
         out.start(i64::from(line.burst));
         out.plus(self.date_at(pair.first), line.rate);
@@ -55,8 +48,9 @@ impl Kept<'_> {
     }
 
     // The row at an index, from 0, among those of pairs: by the pair, then by the line.
-    pub(crate) fn pair_row(&self, index: u32, out: &mut Row) -> bool
-        ensures { (c : Plan) → Asked (at (arrival_rows c self.now.offset (kept_plan self.now)) index) result out.old out.new }
+    pub fn pair_row(&self, index: u32, out: &mut Row) -> bool
+        ensures wrote { result ≡ true → (n : ℕ) → self.now.offset + values self.now.stretch ≤ n → Fits n out.new }
+        ensures kept { result ≡ false → out.new ≡ out.old }
     {
         let lines = self.curve.lines();
         let count = lines.len() as u32;

@@ -1,18 +1,16 @@
 // The rows of one stream.
-ghost use Rattle.std.specs.Prelude.{◌++◌};
-ghost use Rattle.text.specs.Pieces.{at};
-ghost use Rattle.chain.specs.Plan.{Plan};
-ghost use Rattle.model.specs.SheetRows.{arrival_rows, in_rows, out_rows, stream_rows};
-ghost use Rattle.sheet.specs.Asked.{Asked};
-ghost use Rattle.sheet.specs.Parts.{kept_plan};
+ghost use Rattle.std.specs.Prelude.{◌≡◌, ℕ, ◌+◌, ◌≤◌, true, false};
+ghost use Rattle.sheet.specs.Parts.{values};
+ghost use Rattle.sheet.specs.Rows.{Fits};
 
 use crate::kept::Kept;
-use kind::row::Row;
+use crate::row::Row;
 
 impl Kept<'_> {
     // The row at an index, from 0: at the first node in is at most out; at each, out is at most in; then the later ones.
-    pub(crate) fn row(&self, index: u32, out: &mut Row) -> bool
-        ensures { (c : Plan) → Asked (at (stream_rows c self.now.offset (kept_plan self.now)) index) result out.old out.new }
+    pub fn row(&self, index: u32, out: &mut Row) -> bool
+        ensures wrote { result ≡ true → (n : ℕ) → self.now.offset + values self.now.stretch ≤ n → Fits n out.new }
+        ensures kept { result ≡ false → out.new ≡ out.old }
     {
         if index == 0 {
             out.rises(self.in_at(0), self.out_at(0));
@@ -29,7 +27,8 @@ impl Kept<'_> {
 
     // The row at an index, from 0, among those that say that neither value falls, and of the pairs.
     fn later_row(&self, index: u32, out: &mut Row) -> bool
-        ensures { (c : Plan) → Asked (at (in_rows c self.now.offset (kept_plan self.now) ++ (out_rows c self.now.offset (kept_plan self.now) ++ arrival_rows c self.now.offset (kept_plan self.now))) index) result out.old out.new }
+        ensures wrote { result ≡ true → (n : ℕ) → self.now.offset + values self.now.stretch ≤ n → Fits n out.new }
+        ensures kept { result ≡ false → out.new ≡ out.old }
     {
         let hops = self.hops();
         if index < hops {

@@ -1,33 +1,27 @@
 // How many unknowns and rows a part has.
-ghost use Rattle.std.specs.Prelude.{◌≡◌, ℕ, ◌≤◌, map, length};
-ghost use Rattle.chain.specs.Plan.{Plan, relay_plan};
-ghost use Rattle.chain.specs.Shape.{next};
-ghost use Rattle.model.specs.SheetRows.{base_rows, streams_rows};
-ghost use Rattle.model.specs.Unknowns.{all_past, unknowns};
-ghost use Rattle.sheet.specs.Parts.{kept_all, numbered, part_plan};
+ghost use Rattle.std.specs.Prelude.{◌≡◌, ◌+◌, ◌≤◌, length};
+ghost use Rattle.sheet.specs.Parts.{part_rows, part_unknowns, relays_rows, streams_rows, widths};
 
 use crate::part::Part;
 use crate::part::cut::{rows_of, width};
 use chain::shape::next_relay;
 use chain::stream::{Relay, Stream};
 
-// The dates up to the one after the last relay, and the values of each stream.
-fn count_unknowns(streams: &[Stream], last: u32) -> u32
-    requires plenty { length streams.now ≤ 16 }
-    requires short { last ≤ 8 }
-    ensures value { (c : Plan) → result ≡ all_past c (next last) (kept_all last streams.now) }
-    ensures few { result ≤ 297 }
+fn sum_widths(streams: &[Stream], last: u32) -> u32
+    requires { length streams.now ≤ 16 }
+    ensures value { result ≡ widths last streams.now }
+    ensures few { result ≤ 288 }
 {
-    let mut count = next_relay(last);
+    let mut sum = 0;
     for stream in streams {
-        count += width(stream, last);
+        sum += width(&stream.stretch, last);
     }
-    count
+    sum
 }
 
 fn sum_stream_rows(streams: &[Stream], last: u32) -> u32
     requires { length streams.now ≤ 16 }
-    ensures value { (c : Plan) (o : ℕ) → result ≡ length (streams_rows c o (kept_all last streams.now)) }
+    ensures value { result ≡ streams_rows last streams.now }
     ensures few { result ≤ 2720 }
 {
     let mut sum = 0;
@@ -39,7 +33,7 @@ fn sum_stream_rows(streams: &[Stream], last: u32) -> u32
 
 fn sum_relay_rows(relays: &[Relay]) -> u32
     requires { length relays.now ≤ 8 }
-    ensures value { result ≡ length (numbered 1 (map relay_plan relays.now)) }
+    ensures value { result ≡ relays_rows relays.now }
     ensures few { result ≤ 32 }
 {
     let mut sum = 0;
@@ -50,15 +44,15 @@ fn sum_relay_rows(relays: &[Relay]) -> u32
 }
 
 impl Part<'_> {
-    pub(crate) fn unknowns(&self) -> u32
-        ensures value { result ≡ unknowns (part_plan self.now) }
+    pub fn unknowns(&self) -> u32
+        ensures value { result ≡ part_unknowns self.now.chain.now self.now.last }
         ensures few { result ≤ 297 }
     {
-        count_unknowns(self.chain.streams(), self.last)
+        next_relay(self.last) + sum_widths(self.chain.streams(), self.last)
     }
 
-    pub(crate) fn rows(&self) -> u32
-        ensures value { result ≡ length (base_rows (part_plan self.now)) }
+    pub fn rows(&self) -> u32
+        ensures value { result ≡ part_rows self.now.chain.now self.now.last }
         ensures few { result ≤ 2760 }
     {
         let relays = &self.chain.relays()[0..self.last as usize];

@@ -8,7 +8,7 @@ use chain::stream::Stream;
 
 impl<'a> Part<'a> {
     // The whole chain: the part that leads to its last relay.
-    pub(crate) fn whole(chain: &'a Chain) -> Part<'a>
+    pub fn whole(chain: &'a Chain) -> Part<'a>
         ensures chain { result.chain.now ≡ chain.now }
         ensures last { result.last ≡ length (relays_of chain.now) }
     {
@@ -19,7 +19,7 @@ impl<'a> Part<'a> {
     }
 
     // The part that leads to a relay, if there is such a relay.
-    pub(crate) fn until(chain: &'a Chain, relay: u32) -> Option<Part<'a>>
+    pub fn until(chain: &'a Chain, relay: u32) -> Option<Part<'a>>
         ensures { elim result [ Some part ↦ (part.chain.now ≡ chain.now) × (part.last ≡ relay) | None ↦ ((1 ≤ relay) → (relay ≤ length (relays_of chain.now)) → ⊥) ] }
     {
         if relay < 1 || chain.relays().len() < relay as usize {
@@ -28,7 +28,7 @@ impl<'a> Part<'a> {
         Some(Part { chain, last: relay })
     }
 
-    pub(crate) fn last(&self) -> u32
+    pub fn last(&self) -> u32
         ensures value { result ≡ self.now.last }
         ensures some { 1 ≤ result }
         ensures few { result ≤ 8 }
@@ -37,7 +37,7 @@ impl<'a> Part<'a> {
     }
 
     // The streams of the whole chain.
-    pub(crate) fn streams(&self) -> &'a [Stream]
+    pub fn streams(&self) -> &'a [Stream]
         ensures value { result.now ≡ streams_of self.now.chain.now }
         ensures few { length result.now ≤ 16 }
     {

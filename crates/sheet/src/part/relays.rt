@@ -1,8 +1,5 @@
 // The lines of relays.
-ghost use Rattle.std.specs.Prelude.{◌≡◌, ◌+◌, ◌≤◌, map, length, Some};
-ghost use Rattle.text.specs.Pieces.{at};
-ghost use Rattle.chain.specs.Plan.{relay_plan, serves};
-ghost use Rattle.sheet.specs.Parts.{numbered};
+ghost use Rattle.std.specs.Prelude.{◌≤◌, length};
 ghost use Rattle.sheet.specs.declared.part.relays.Spot.TheVariants.{Line, Past};
 
 use chain::line::ServiceLine;
@@ -23,9 +20,9 @@ pub enum Spot {
 }
 
 // The line at an index, from 0.
-pub(crate) fn find_line(relays: &[Relay], index: u32) -> Spot
+pub fn find_line(relays: &[Relay], index: u32) -> Spot
     requires { length relays.now ≤ 8 }
-    ensures { elim result [ Line found ↦ (at (numbered 1 (map relay_plan relays.now)) index ≡ Some (found.relay, serves found.line)) × (1 ≤ found.relay) × (found.relay ≤ length relays.now) | Past left ↦ index ≡ length (numbered 1 (map relay_plan relays.now)) + left ] }
+    ensures { elim result [ Line at ↦ (1 ≤ at.relay) × (at.relay ≤ length relays.now) | Past left ↦ Unit {0} ] }
 {
     let mut left = index;
     for i in 0..relays.len() {

@@ -1,5 +1,5 @@
 use Rattle.std.proofs.Common.{◌≡◌, ◌+◌, ◌*◌, ◌≤◌, drop}
-use Rattle.outputs.specs.Written.{on_page, added_to}
+use Rattle.text.specs.Written.{on_page, added_to}
 use Rattle.book.specs.Quotes.{standing}
 use Rattle.book.specs.Writing.{backlog_parts, quotes_text}
 use Rattle.book.proofs.write.quotes_page.Given as goal

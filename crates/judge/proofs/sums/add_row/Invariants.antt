@@ -1,5 +1,5 @@
 use Rattle.std.proofs.Common.{◌≡◌, ℕ, ◌+◌, ◌<◌, length, get_or, take, pos, ◌+ℤ◌, ◌*ℤ◌}
-use Rattle.kind.specs.Rows.{coefficient}
+use Rattle.judge.specs.Sums.{coefficient}
 use Rattle.judge.proofs.sums.add_row.Given as goal
 
 abbrev pub invariant-loop-term : goal.invariant-loop-term

@@ -9,7 +9,7 @@ scaled_is x m z y e f q = e ∙ ap (λ v. pos m *ℤ v) (to_z-of_z w64 z f ∙ q
 
 pub scaled-requires : goal.scaled-requires
 scaled-requires g c =
-    record { factor = c.requires.scale; number = omega (arith, back_small c.goal.result 1048576 (rw c.goal.ensures (c.requires.limits.goal_small (c.loop-i.i + 1) (omega arith) (omega (arith, c.unknowns-unknowns.ensures)))) (omega arith)) }
+    record { factor = c.requires.scale; number = omega (arith, back_small c.goal.result 1048576 (rw c.goal.ensures (c.requires.limits.goal_small (c.loop-i.i + 1))) (omega arith)) }
 
 pub returns-then-sums-i : goal.returns-then-sums-i
 returns-then-sums-i g c =

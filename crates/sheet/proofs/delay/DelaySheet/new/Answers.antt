@@ -1,33 +1,31 @@
-use Rattle.std.proofs.Common.{◌≡◌, suc, ◌+◌, ◌*◌, length, sym, ap, ◌∙◌, arith}
-use lib.ListN.{length-map}
-use Rattle.chain.specs.Plan.{Plan, plan_of, sends}
-use Rattle.chain.specs.Views.{relays_of}
-use Rattle.chain.specs.Walks.{hops, stop}
-use Rattle.model.specs.SheetRows.{base_rows, relay_at}
-use Rattle.model.specs.Unknowns.{unknowns}
-use Rattle.model.proofs.RowCounts.{base_rows_count, delay_rows_count}
-use Rattle.sheet.proofs.DelayLaws.{stop_hops, stop_lines}
-use Rattle.sheet.proofs.PartLaws.{whole_part}
+use Rattle.std.proofs.Common.{◌≡◌, ◌+◌, ◌*◌, ◌≤◌, length, sym, ap, ◌∙◌, mul-le-mul, arith}
+use Rattle.chain.specs.Shape.{next}
+use Rattle.chain.specs.Views.{relays_of, streams_of}
+use Rattle.sheet.specs.Kinds.{stop_lines}
+use Rattle.sheet.specs.Parts.{part_rows, part_unknowns}
 use Rattle.sheet.proofs.delay.DelaySheet.new.Goals as goal
 
 pub invariant_of-result : goal.invariant_of-result
 invariant_of-result c =
-    let part = c.whole-part.result in
-    let p = plan_of part.chain.now in
-    let s = stop p.streams in
-    let k = c.stop-stop.result in
-    let stops = c.stop-stop.ensures in
-    let whole : part.last ≡ length (relays_of part.chain.now) = c.whole-part.ensures.last ∙ ap (λ n. length (relays_of n)) (sym c.whole-part.ensures.chain) in
-    let all = whole_part part whole in
-    let base : c.rows-base.result ≡ length (base_rows p) = c.rows-base.ensures.value ∙ ap (λ (q : Plan). length (base_rows q)) all in
-    let relays = stop_hops p k stops.plan stops.offset c.hops.result c.hops.ensures.value in
-    let nodes : c.hops.result + 1 ≡ suc (hops p s) = omega (arith, relays) in
-    let lines : length c.lines.result.now ≡ length s.lines = sym (length-map c.lines.result.now sends) ∙ ap length (sym (stop_lines p k stops.plan stops.offset c.lines.result.now c.lines.ensures.value)) in
-    let added : c.node_rows.result ≡ suc (hops p s) * length s.lines = c.node_rows.ensures ∙ (λ i. nodes i * lines i) in
+    let w = c.whole-part.result in
+    let same : w.chain.now ≡ c.args.chain.now = c.whole-part.ensures.chain in
+    let last : w.last ≡ length (relays_of c.args.chain.now) = c.whole-part.ensures.last in
+    let whole : w.last ≡ length (relays_of w.chain.now) = last ∙ ap (λ k. length (relays_of k)) (sym same) in
+    let hops : c.hops.result ≡ length (relays_of w.chain.now) = c.hops.ensures.value ∙ c.stop_stream-stop.ensures.spans ∙ ap (λ k. length (relays_of k)) (sym same) in
+    let lines : length c.lines.result.now ≡ stop_lines (streams_of w.chain.now) = ap length c.lines.ensures.value ∙ c.stop_stream-stop.ensures.lines ∙ ap (λ k. stop_lines (streams_of k)) (sym same) in
+    let nodes : c.node_rows.result ≡ (length (relays_of w.chain.now) + 1) * stop_lines (streams_of w.chain.now) = c.node_rows.ensures ∙ (λ i. (hops i + 1) * lines i) in
+    let base : c.rows-base.result ≡ part_rows w.chain.now (length (relays_of w.chain.now)) = c.rows-base.ensures.value ∙ ap (part_rows w.chain.now) whole in
+    let few : c.hops.result + 1 ≤ 9 = omega (arith, c.hops.ensures.few) in
+    let node-few : (c.hops.result + 1) * length c.lines.result.now ≤ 9 * 4 = mul-le-mul few c.lines.ensures.few in
+    let counted : part_unknowns c.args.chain.now (length (relays_of c.args.chain.now)) ≡ part_unknowns w.chain.now w.last = (λ i. part_unknowns (sym same i) (sym last i)) in
     record {
       whole = whole;
-      counted = c.unknowns.ensures.value ∙ ap unknowns all;
+      spans = c.stop_stream-stop.ensures.spans ∙ sym last;
+      first = c.stop_stream-stop.ensures.offset ∙ ap next (sym last);
+      reaches = omega (arith, c.stop_stream-stop.ensures.reaches, counted, c.unknowns.ensures.value);
+      counted = c.unknowns.ensures.value;
       few = c.unknowns.ensures.few;
-      based = base;
-      all_rows = omega (arith, base, added, base_rows_count p, delay_rows_count p (relay_at p 1));
+      based = c.rows-base.ensures.value;
+      all_rows = (λ i. base i + 5 + nodes i);
+      few_rows = omega (arith, c.rows-base.ensures.few, c.node_rows.ensures, node-few);
     }

@@ -1,36 +1,23 @@
-use Rattle.std.proofs.Common.{sym, ap, ◌∙◌, arith}
-use Rattle.text.specs.Pieces.{at}
-use Rattle.model.specs.SheetRows.{streams_rows}
-use Rattle.sheet.specs.Parts.{part_plan}
-use Rattle.sheet.proofs.KeptLaws.{kept_end, rows_here, rows_later}
-use Rattle.sheet.proofs.PartLaws.{from_start}
+use Rattle.std.proofs.Common.{◌≤◌, ap, arith}
+use Rattle.sheet.specs.Parts.{widths}
+use Rattle.sheet.proofs.Counts.{begins_more, offset_few, own_within}
 use Rattle.sheet.proofs.part.Part.find_stream.Goals as goal
 
 pub returns-then-left-rows : goal.returns-then-left-rows
 returns-then-left-rows c =
-    let p = part_plan c.args.self.now in
-    let start = from_start c.args.self.now c.streams-streams.result.now c.streams-streams.ensures.value (λ o ks. at (streams_rows p o ks) c.args.index) in
-    record {
-      row = sym start ∙ sym c.loop-stream.invariant.0
-          ∙ rows_here c.args.self.now.last c.streams-streams.result.now c.loop-stream.stream-index c.stream-item.result c.loop-stream-test.true c.stream-item.is p c.loop-stream.offset c.rows_of-rows.result (c.rows_of-rows.ensures.value p c.loop-stream.offset) c.loop-stream.left c.if-left-rows.true;
-      offset = (c.loop-stream.invariant.1, omega (arith, c.loop-stream.invariant.2, c.loop-stream-test.true, c.streams-streams.ensures.few));
-    }
+    let short : c.args.self.now.last ≤ 8 = omega arith in
+    let same = ap (widths c.args.self.now.last) c.streams-streams.ensures.value in (
+      c.loop-stream.invariant.low,
+      offset_few c.args.self.now.last c.streams-streams.result.now c.streams-streams.ensures.few short c.loop-stream.stream-index c.loop-stream.offset c.loop-stream.invariant,
+      omega (arith, own_within c.args.self.now.last c.streams-streams.result.now c.streams-streams.ensures.few short c.loop-stream.stream-index c.loop-stream.offset c.loop-stream.invariant c.stream-item.result c.loop-stream-test.true c.stream-item.is),
+    )
 
 pub overflow_add-offset : goal.overflow_add-offset
-overflow_add-offset c = omega (arith, c.loop-stream.invariant.2, c.loop-stream-test.true, c.streams-streams.ensures.few, c.width-offset.ensures.few)
+overflow_add-offset c =
+    let short : c.args.self.now.last ≤ 8 = omega arith in
+    omega (arith, c.width-offset.ensures.few, offset_few c.args.self.now.last c.streams-streams.result.now c.streams-streams.ensures.few short c.loop-stream.stream-index c.loop-stream.offset c.loop-stream.invariant)
 
 pub loop-stream-preserved : goal.loop-stream-preserved
 loop-stream-preserved c =
-    let p = part_plan c.args.self.now in
-    let later = rows_later c.args.self.now.last c.streams-streams.result.now c.loop-stream.stream-index c.stream-item.result c.loop-stream-test.true c.stream-item.is p c.loop-stream.offset c.width-offset.result (c.width-offset.ensures.value p c.loop-stream.offset) c.rows_of-rows.result (c.rows_of-rows.ensures.value p c.loop-stream.offset) c.loop-stream.left c.if-left-rows.false in (
-      sym later ∙ c.loop-stream.invariant.0,
-      omega (arith, c.loop-stream.invariant.1),
-      omega (arith, c.loop-stream.invariant.2, c.width-offset.ensures.few),
-    )
-
-pub returns : goal.returns
-returns c =
-    let p = part_plan c.args.self.now in
-    let start = from_start c.args.self.now c.streams-streams.result.now c.streams-streams.ensures.value (λ o ks. at (streams_rows p o ks) c.args.index) in
-    let none = kept_end c.args.self.now.last c.streams-streams.result.now c.loop-stream.stream-index c.loop-stream-test.false in
-    record { row = sym start ∙ sym c.loop-stream.invariant.0 ∙ ap (λ ks. at (streams_rows p c.loop-stream.offset ks) c.loop-stream.left) none; offset = tt }
+    let short : c.args.self.now.last ≤ 8 = omega arith in
+    begins_more c.args.self.now.last c.streams-streams.result.now c.streams-streams.ensures.few short c.loop-stream.stream-index c.loop-stream.offset c.loop-stream.invariant c.stream-item.result c.loop-stream-test.true c.stream-item.is c.width-offset.result c.width-offset.ensures.value

@@ -1,43 +1,29 @@
-use Rattle.std.proofs.Common.{◌+◌, ◌++◌, drop, sym, ap, ◌∙◌, append_assoc, append-nil, arith}
-use Rattle.kind.specs.Rows.{terms_of}
-use Rattle.model.specs.SheetRows.{crossings}
-use Rattle.sheet.specs.Parts.{kept_all, kept_of, part_plan}
-use Rattle.sheet.proofs.KeptLaws.{crossings_more, kept_end}
-use Rattle.sheet.proofs.PartLaws.{from_start}
+use Rattle.std.proofs.Common.{◌≤◌, arith}
+use Rattle.sheet.proofs.Counts.{begins_more, offset_few, own_within}
 use Rattle.sheet.proofs.part.Part.write_crossings.Goals as goal
 
-pub write_stream-requires : goal.write_stream-requires
-write_stream-requires c =
+pub write_crossing-requires : goal.write_crossing-requires
+write_crossing-requires c =
+    let short : c.args.self.now.last ≤ 8 = omega arith in
     record {
-      after_dates = c.loop-stream.invariant.1;
-      few = omega (arith, c.loop-stream.invariant.2, c.loop-stream-test.true, c.streams-streams.ensures.few);
-      room = omega (arith, c.loop-stream.invariant.3, c.loop-stream-test.true, c.streams-streams.ensures.few);
+      after_dates = c.loop-stream.invariant.0.low;
+      few = offset_few c.args.self.now.last c.streams-streams.result.now c.streams-streams.ensures.few short c.loop-stream.stream-index c.loop-stream.offset c.loop-stream.invariant.0;
+      room = omega (arith, c.loop-stream.invariant.1, c.streams-streams.ensures.few);
     }
 
 pub overflow_add-offset : goal.overflow_add-offset
-overflow_add-offset c = omega (arith, c.loop-stream.invariant.2, c.loop-stream-test.true, c.streams-streams.ensures.few, c.width-offset.ensures.few)
+overflow_add-offset c =
+    let short : c.args.self.now.last ≤ 8 = omega arith in
+    omega (arith, c.width-offset.ensures.few, offset_few c.args.self.now.last c.streams-streams.result.now c.streams-streams.ensures.few short c.loop-stream.stream-index c.loop-stream.offset c.loop-stream.invariant.0)
 
 pub loop-stream-preserved : goal.loop-stream-preserved
 loop-stream-preserved c =
-    let p = part_plan c.args.self.now in
-    let written = terms_of c.loop-stream.out in
-    let own = crossings p c.args.relay c.loop-stream.offset (kept_of c.args.self.now.last c.stream-item.result) in
-    let later = crossings p c.args.relay (c.loop-stream.offset + c.width-offset.result) (kept_all c.args.self.now.last (drop (c.loop-stream.stream-index + 1) c.streams-streams.result.now)) in
-    let split = crossings_more c.args.self.now.last c.streams-streams.result.now c.loop-stream.stream-index c.stream-item.result c.loop-stream-test.true c.stream-item.is p c.loop-stream.offset c.width-offset.result (c.width-offset.ensures.value p c.loop-stream.offset) c.args.relay in (
-      ap (λ t. t ++ later) (c.write_stream.ensures.terms p) ∙ append_assoc written own later ∙ ap (λ t. written ++ t) (sym split) ∙ c.loop-stream.invariant.0,
-      omega (arith, c.loop-stream.invariant.1),
-      omega (arith, c.loop-stream.invariant.2, c.width-offset.ensures.few),
-      omega (arith, c.loop-stream.invariant.3, c.write_stream.ensures.count),
-      c.write_stream.ensures.right ∙ c.loop-stream.invariant.4,
+    let short : c.args.self.now.last ≤ 8 = omega arith in (
+      begins_more c.args.self.now.last c.streams-streams.result.now c.streams-streams.ensures.few short c.loop-stream.stream-index c.loop-stream.offset c.loop-stream.invariant.0 c.stream-item.result c.loop-stream-test.true c.stream-item.is c.width-offset.result c.width-offset.ensures.value,
+      omega (arith, c.loop-stream.invariant.1, c.write_crossing.ensures.count),
+      λ n f h. c.write_crossing.ensures.fits n (c.loop-stream.invariant.2 n f h)
+          (omega (arith, h, own_within c.args.self.now.last c.streams-streams.result.now c.streams-streams.ensures.few short c.loop-stream.stream-index c.loop-stream.offset c.loop-stream.invariant.0 c.stream-item.result c.loop-stream-test.true c.stream-item.is)),
     )
 
 pub returns : goal.returns
-returns c =
-    let p = part_plan c.args.self.now in
-    let written = terms_of c.loop-stream.out in
-    let none = kept_end c.args.self.now.last c.streams-streams.result.now c.loop-stream.stream-index c.loop-stream-test.false in
-    record {
-      terms = sym (append-nil written) ∙ ap (λ ks. written ++ crossings p c.args.relay c.loop-stream.offset ks) (sym none) ∙ c.loop-stream.invariant.0
-          ∙ ap (λ t. terms_of c.args.out.now ++ t) (from_start c.args.self.now c.streams-streams.result.now c.streams-streams.ensures.value (crossings p c.args.relay));
-      right = c.loop-stream.invariant.4;
-    }
+returns c = λ n f h. c.loop-stream.invariant.2 n f (rw c.streams-streams.ensures.value h)

@@ -1,5 +1,5 @@
 use Rattle.std.proofs.Common.{refl}
-use Rattle.sheet.proofs.CutLaws.{pairs_few}
+use Rattle.sheet.proofs.Counts.{pairs_few}
 use Rattle.sheet.proofs.part.cut.pairs.Goals as goal
 
 pub returns : goal.returns

@@ -1,17 +1,24 @@
-use Rattle.std.proofs.Common.{◌≤◌, refl, arith}
-use lib.ListN.{length-map}
-use Rattle.chain.specs.Plan.{plan_of, relay_plan}
-use Rattle.chain.specs.Views.{relays_of}
-use Rattle.chain.specs.Walks.{size}
-use Rattle.chain.proofs.WithinLaws.{chain_within}
-use Rattle.model.proofs.LimitLaws.{backlog_limits}
-use Rattle.model.proofs.Sounds.{backlog_sound}
+use Rattle.std.proofs.Common.{◌≤◌, true, false, cond, eqb, refl, arith}
+use Rattle.chain.specs.Shape.{next}
+use Rattle.chain.specs.Views.{streams_of}
+use Rattle.sheet.specs.Parts.{part_rows}
+use Rattle.sheet.proofs.Counts.{widths_few}
+use Rattle.sheet.proofs.GoalLaws.{waiting_small}
 use Rattle.sheet.proofs.backlog.answer.BacklogSheetSheet.places.Goals as goal
 
 pub returns : goal.returns
 returns c =
-    let part = c.args.self.now.part in
-    let p = plan_of part.chain.now in
-    let within = chain_within part.chain.now in
-    let last : part.last ≤ size p = omega (arith, part.within, length-map (relays_of part.chain.now) relay_plan) in
-    record { count = refl; limits = backlog_limits p part.last within part.some last; sound = backlog_sound p part.last within part.some last }
+    let s = c.args.self.now in
+    let few : part_rows s.part.chain.now s.part.last ≤ 4096 = omega (arith, s.all_rows, s.few_rows) in
+    record {
+      count = refl;
+      limits = record {
+        some_place = omega arith;
+        few_places = omega arith;
+        few_unknowns = omega (arith, widths_few s.part.last (streams_of s.part.chain.now));
+        few_rows = λ p. elim (eqb p 1) as (λ b. cond b (part_rows s.part.chain.now s.part.last) 0 ≤ 4096) [ true ↦ few | false ↦ omega arith ];
+        goal_small = λ u. omega (arith, waiting_small s.part.last (next s.part.last) u (streams_of s.part.chain.now));
+        ceiling_low = λ k. omega arith;
+        ceiling_high = λ k. omega arith;
+      };
+    }

@@ -1,0 +1,13 @@
+-- The goals a claim can be about, each at a number: the delay at 0, a backlog at a relay.
+use Rattle.std.specs.Prelude.{ℕ, Bool, ◌&&◌, ◌==◌, nat_le}
+use Rattle.book.specs.declared.goal.Goal.{Goal}
+use Rattle.book.specs.declared.goal.Goal.TheVariants.{Delay, Backlog}
+
+-- there is such a goal in a chain of n relays
+abbrev pub is_place_of : ℕ → Goal → ℕ → Bool
+is_place_of n Delay at = at == 0
+is_place_of n Backlog at = nat_le 1 at && nat_le at n
+
+-- there is such a goal in some chain
+abbrev pub is_place : Goal → ℕ → Bool
+is_place = is_place_of 8

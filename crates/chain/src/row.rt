@@ -1,0 +1,18 @@
+// What a line of values says.
+use crate::line::{ArrivalLine, ServiceLine};
+
+// A relay's number and a line of its curve.
+#[derive(Clone, Copy)]
+pub struct RelayRow {
+    pub number: u32,
+    pub line: ServiceLine,
+}
+
+// A stream's number, the ends of its stretch and a line of its curve.
+#[derive(Clone, Copy)]
+pub struct StreamRow {
+    pub number: u32,
+    pub from: u32,
+    pub to: u32,
+    pub line: ArrivalLine,
+}

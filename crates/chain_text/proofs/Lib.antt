@@ -1,3 +1,0 @@
-pub mod PlanLaws
-pub mod DraftLaws
-pub mod KeepLaws

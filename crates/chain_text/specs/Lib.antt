@@ -1,4 +1,0 @@
-pub mod Lines
-pub mod Parsed
-pub mod Drafts
-pub mod Texts

@@ -1,4 +1,0 @@
-pub mod Spelled
-pub mod Refused
-pub mod ChainTexts
-pub mod Laws

@@ -1,4 +1,0 @@
-pub mod Places
-pub mod Goals
-pub mod Judgings
-pub mod RowTexts

@@ -1,3 +1,0 @@
-pub mod PaperTexts
-pub mod Judged
-pub mod Laws

@@ -1,0 +1,25 @@
+-- A row by the list of its terms, and the limits that every row keeps.
+use Rattle.std.specs.Prelude.{ℕ, zero, suc, ◌≤◌, List, [], ◌∷◌, take, ℤ, pos, negsuc, unsigned_abs}
+use Rattle.std.specs.List.{AllByRecursion}
+use Rattle.sheet.specs.declared.row.Row.{Row}
+use Rattle.sheet.specs.declared.row.Term.{Term}
+
+abbrev pub terms_of : Row → List Term
+terms_of r = take r.count r.places
+
+-- a term that multiplies its unknown by 0 is left out
+abbrev pub term_of : ℕ → ℤ → List Term
+term_of u (pos zero) = []
+term_of u (pos (suc n)) = record { unknown = u; times = pos (suc n) } ∷ []
+term_of u (negsuc n) = record { unknown = u; times = negsuc n } ∷ []
+
+-- a term names one of n unknowns, and its number is small
+pub record Fine (n : ℕ) (t : Term) : Type 0 where
+  pub low : 1 ≤ t.unknown
+  pub high : t.unknown ≤ n
+  pub small : unsigned_abs t.times ≤ 1048576
+
+-- a row over n unknowns within its limits
+pub record Fits (n : ℕ) (r : Row) : Type 0 where
+  pub each : AllByRecursion (Fine n) (terms_of r)
+  pub small : unsigned_abs r.right ≤ 16777216
