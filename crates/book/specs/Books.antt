@@ -62,15 +62,15 @@ OpenOutcome b text (Err f) c = NotOpened b text f × (c ≡ b)
 
 -- a verdict on a goal at a number with a claim, given after so many edits
 pub record About (v : Verdict) (p : GoalPlan) (edits : ℕ) : Type 0 where
-  pub goal : v.goal ≡ p.goal
-  pub at : v.at ≡ p.at
+  pub goal : v.target.goal ≡ p.goal
+  pub at : v.target.at ≡ p.at
   pub claim : v.claim ≡ p.claim
   pub counted : v.edits ≡ edits
 
 -- the part of an outcome that is the judge's
 abbrev pub JudgedBy : Kind → ℕ → List ℕ → Result Verdict BookFault → List ℤ → List ℤ → Type 0
-JudgedBy k scale rest (Ok v) before after = ByKind k scale rest (Ok tt) before after
-JudgedBy k scale rest (Err (Judging f)) before after = ByKind k scale rest (Err f) before after
+JudgedBy k scale rest (Ok v) before after = ByKind k scale 3 rest (Ok tt) before after
+JudgedBy k scale rest (Err (Judging f)) before after = ByKind k scale 3 rest (Err f) before after
 JudgedBy k scale rest (Err EditsExhausted) before after = ⊥
 JudgedBy k scale rest (Err NoChain) before after = ⊥
 JudgedBy k scale rest (Err EditsMoved) before after = ⊥
@@ -98,12 +98,12 @@ JudgeOutcome (Some c) edits paper r before after = VerdictTold c edits (read_pap
 abbrev pub enter_answer : Book → Verdict → Result ℕ BookFault
 enter_answer b v =
     cond (is_some b.chain)
-    (cond (v.edits == b.edits) (Ok (smaller (quote_at (standing b.quotes) v.goal v.at) v.claim)) (Err EditsMoved))
+    (cond (v.edits == b.edits) (Ok (smaller (quote_at (standing b.quotes) v.target.goal v.target.at) v.claim)) (Err EditsMoved))
     (Err NoChain)
 
 pub record Entered (b : Book) (v : Verdict) (quote : ℕ) (c : Book) : Type 0 where
   pub chain : c.chain ≡ b.chain
-  pub quotes : standing c.quotes ≡ lowered (standing b.quotes) v.goal v.at quote
+  pub quotes : standing c.quotes ≡ lowered (standing b.quotes) v.target.goal v.target.at quote
   pub edits : c.edits ≡ b.edits
 
 abbrev pub EnterLeaves : Book → Verdict → Result ℕ BookFault → Book → Type 0

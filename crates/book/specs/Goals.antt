@@ -1,12 +1,11 @@
 -- The goal line of a paper and the names above it.
-use Rattle.std.specs.Prelude.{ℕ, cond, ◌&&◌, List, length, Ok, codes, Result, ◌==◌, nat_le}
+use Rattle.std.specs.Prelude.{ℕ, cond, ◌&&◌, List, [], ◌∷◌, Ok, codes, Result, ◌==◌, nat_le}
 use Rattle.text.specs.declared.fault.Fault.{Fault}
-use Rattle.text.specs.declared.fault.Fault.TheVariants.{WordCount, OutOfLimits, NamesNothing, TooLong}
-use Rattle.std.specs.Borrow.{Bor}
+use Rattle.text.specs.declared.fault.Fault.TheVariants.{WordCount, OutOfLimits, NamesNothing}
 use Rattle.text.specs.Continue.{and_then, unless}
-use Rattle.text.specs.Lines.{first_line}
+use Rattle.text.specs.Lines.{first_line, lines_of}
 use Rattle.text.specs.Pieces.{word_count}
-use Rattle.text.specs.Read.{begins_with, number_at, name_at}
+use Rattle.text.specs.Read.{begins_with, number_at, name_at, names_line}
 use Rattle.judge.specs.declared.stated.Stated.{Stated}
 use Rattle.book.specs.declared.goal.Goal.{Goal}
 use Rattle.book.specs.declared.goal.Goal.TheVariants.{Delay, Backlog}
@@ -21,7 +20,7 @@ pub record GoalPlan : Type 0 where
   pub scale : ℕ
 
 abbrev pub goal_plan : Aim → GoalPlan
-goal_plan a = record { goal = a.goal; at = a.at; claim = a.stated.claim; scale = a.stated.scale }
+goal_plan a = record { goal = a.target.goal; at = a.target.at; claim = a.stated.claim; scale = a.stated.scale }
 
 pub record ClaimPlan : Type 0 where
   pub claim : ℕ
@@ -30,10 +29,9 @@ pub record ClaimPlan : Type 0 where
 abbrev pub claim_plan : Stated → ClaimPlan
 claim_plan s = record { claim = s.claim; scale = s.scale }
 
+-- the names above the goal line
 abbrev pub goal_names : ℕ → List ℕ → Result (Unit {0}) Fault
-goal_names line l =
-    unless (word_count l == 4) (WordCount line)
-    (and_then (name_at line 1 (codes "goal") l) (λ _. and_then (name_at line 2 (codes "at") l) (λ _. and_then (name_at line 3 (codes "claim") l) (λ _. name_at line 4 (codes "scale") l))))
+goal_names line l = names_line line (codes "goal" ∷ (codes "at" ∷ (codes "claim" ∷ (codes "scale" ∷ [])))) l
 
 -- the goal word: delay or backlog
 abbrev pub goal_at : ℕ → List ℕ → Result Goal Fault
@@ -53,19 +51,10 @@ goal_line n line l =
     and_then (claim_in line c s) (λ p.
     unless (is_place_of n g a) (NamesNothing line 2) (Ok (record { goal = g; at = a; claim = p.claim; scale = p.scale }))))))))
 
--- what a paper is about, for a chain of n relays
-abbrev pub read_aim : ℕ → List ℕ → Result GoalPlan Fault
-read_aim n bs =
-    unless (nat_le (length bs) 65536) TooLong
-    (and_then (first_line 1 bs) (λ p. and_then (goal_names 1 p.0) (λ _. and_then (first_line 2 p.1) (λ q. goal_line n 2 q.0))))
+-- the goal line of a paper, below its names, and the lines from the third on
+abbrev pub goal_row : List ℕ → Result (List ℕ × List ℕ) Fault
+goal_row bs = and_then (lines_of bs) (λ t. and_then (first_line 1 t.1) (λ p. and_then (goal_names 1 p.0) (λ _. first_line 2 p.1)))
 
--- the lines from the third on
-abbrev pub after_two : List ℕ → Result (List ℕ) Fault
-after_two bs = and_then (first_line 1 bs) (λ p. and_then (first_line 2 p.1) (λ q. Ok q.1))
-
-abbrev pub held_one : Bor (List ℕ) → List ℕ
-held_one r = r.now
-
--- what a paper is about, and its lines from the third on
+-- what a paper is about, for a chain of n relays, and its lines from the third on
 abbrev pub read_paper : ℕ → List ℕ → Result (GoalPlan × List ℕ) Fault
-read_paper n bs = and_then (read_aim n bs) (λ p. and_then (after_two bs) (λ rest. Ok (p, rest)))
+read_paper n bs = and_then (goal_row bs) (λ q. and_then (goal_line n 2 q.0) (λ p. Ok (p, q.1)))

@@ -19,15 +19,15 @@ abbrev pub kind_of : Chain → Goal → ℕ → Kind
 kind_of c Delay at = delay_kind c
 kind_of c Backlog at = backlog_kind c at
 
--- the lines from the third on were judged by that sheet: their check is exact, and entries past its unknowns stay
-pub record ByKind (k : Kind) (scale : ℕ) (rest : List ℕ) (r : Result (Unit {0}) JudgeFault) (before after : List ℤ) : Type 0 where
-  pub judged : Judged k scale (check_paper k (length before) 3 rest) r before after
+-- lines, the first with the number n, were judged by that sheet: their check is exact, and entries past its unknowns stay
+pub record ByKind (k : Kind) (scale n : ℕ) (rest : List ℕ) (r : Result (Unit {0}) JudgeFault) (before after : List ℤ) : Type 0 where
+  pub judged : Judged k scale (check_paper k (length before) n rest) r before after
   pub beyond : drop k.unknowns after ≡ drop k.unknowns before
 
 -- the outcome for a paper about p with these lines
 pub record PaperJudged (c : Chain) (p : GoalPlan) (rest : List ℕ) (r : Result Aim JudgeFault) (before after : List ℤ) : Type 0 where
   pub aim : KeptOk (λ a. goal_plan a ≡ p) r
-  pub lines : ByKind (kind_of c p.goal p.at) p.scale rest (ok_as (λ _. tt) r) before after
+  pub lines : ByKind (kind_of c p.goal p.at) p.scale 3 rest (ok_as (λ _. tt) r) before after
 
 -- the outcome for a paper: one with a fault in its length or its first two lines is refused by it, and touches no memory
 abbrev pub AimTold : Chain → Result (GoalPlan × List ℕ) Fault → Result Aim JudgeFault → List ℤ → List ℤ → Type 0

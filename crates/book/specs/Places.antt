@@ -1,7 +1,12 @@
 -- The goals a claim can be about, each at a number: the delay at 0, a backlog at a relay.
-use Rattle.std.specs.Prelude.{ℕ, Bool, ◌&&◌, ◌==◌, nat_le}
+use Rattle.std.specs.Prelude.{ℕ, Bool, ◌&&◌, List, codes, ◌==◌, nat_le}
 use Rattle.book.specs.declared.goal.Goal.{Goal}
 use Rattle.book.specs.declared.goal.Goal.TheVariants.{Delay, Backlog}
+
+-- the word of a goal
+abbrev pub goal_word : Goal → List ℕ
+goal_word Delay = codes "delay"
+goal_word Backlog = codes "backlog"
 
 -- there is such a goal in a chain of n relays
 abbrev pub is_place_of : ℕ → Goal → ℕ → Bool

@@ -59,30 +59,24 @@ impl From<Short> for BookFault {
     }
 }
 
-// A refusal whose two values are 0.
-fn plain(number: u32) -> Refusal
-    ensures { result ≡ record { number = number; first = 0; second = 0 } }
-{
-    Refusal {
-        number,
-        first: 0,
-        second: 0,
-    }
-}
+impl From<BookFault> for Refusal {
+    ghost from_gives = { λ f r. r ≡ book_refusal f };
 
-impl BookFault {
-    pub fn refusal(self) -> Refusal
-        ensures { result ≡ book_refusal self }
-    {
-        match self {
-            BookFault::Reading(fault) => fault.refusal(),
-            BookFault::Judging(fault) => fault.refusal(),
-            BookFault::NamesNothing => plain(5),
-            BookFault::MemoryTooShort => plain(8),
-            BookFault::OutOfMemory => plain(9),
-            BookFault::NoChain => plain(21),
-            BookFault::EditsMoved => plain(22),
-            BookFault::EditsExhausted => plain(26),
+    fn from(fault: BookFault) -> Refusal {
+        let number = match fault {
+            BookFault::Reading(fault) => return fault.into(),
+            BookFault::Judging(fault) => return fault.into(),
+            BookFault::NamesNothing => 5,
+            BookFault::MemoryTooShort => 8,
+            BookFault::OutOfMemory => 9,
+            BookFault::NoChain => 21,
+            BookFault::EditsMoved => 22,
+            BookFault::EditsExhausted => 26,
+        };
+        Refusal {
+            number,
+            first: 0,
+            second: 0,
         }
     }
 }

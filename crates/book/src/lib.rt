@@ -8,6 +8,7 @@ pub mod goal;
 pub mod paper;
 pub mod quotes;
 pub mod rows;
+pub mod target;
 pub mod verdict;
 pub mod write;
 

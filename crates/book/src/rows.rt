@@ -1,6 +1,6 @@
 // The text of a row of any sheet.
 use crate::write::add_term_line;
-use sheet::row::Row;
+use sheet::row::{Row, Term};
 use sheet::sheet::Sheet;
 use text::page::Page;
 
@@ -12,15 +12,19 @@ fn term_lines<S: Sheet>(sheet: &S, place: u32, number: u32) -> Option<Page> {
     }
     let mut page = Page::empty();
     for term in row.terms() {
-        add_term_line(&mut page, number, term.unknown, term.times);
+        add_term_line(&mut page, number, *term);
     }
-    add_term_line(&mut page, number, 0, row.right);
+    let right = Term {
+        unknown: 0,
+        times: row.right,
+    };
+    add_term_line(&mut page, number, right);
     Some(page)
 }
 
 // The row with a number at a place, or the names above rows at 0; nothing where there is no such place or row.
 pub fn row_page<S: Sheet>(sheet: &S, place: u32, number: u32) -> Option<Page> {
-    if place < 1 || place > sheet.places() {
+    if !(1..=sheet.places()).contains(&place) {
         return None;
     }
     if number == 0 {

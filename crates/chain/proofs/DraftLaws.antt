@@ -1,36 +1,39 @@
--- How a line adds to what stands before it.
-use Rattle.std.proofs.Common.{◌≡◌, ℕ, ◌+◌, Bool, true, false, cond, ◌&&◌, eqb, ltb, leb, List, [], ◌∷◌, ◌++◌, map, length, Ok, Err, Result, sym, refl, ap, ◌∙◌, arith, eq-eqb}
-use lib.ListN.{length-map}
-use Rattle.std.proofs.lemmas.List.{map_push}
+-- How a line adds to what stands before it, where f says what a value of a table means.
+use Rattle.std.proofs.Common.{◌≡◌, ℕ, ◌<◌, ◌≤◌, Bool, true, false, cond, ltb, List, [], ◌∷◌, ◌++◌, map, length, get_or, set, Ok, Result, refl, sym, ap, ◌∙◌, arith}
+use Rattle.std.proofs.lemmas.Bool.{lt-ltb, le-ltb}
+use Rattle.std.proofs.lemmas.List.{length-map, get_or-map, map-set, map_push}
 use Rattle.text.specs.declared.fault.Fault.{Fault}
-use Rattle.std.proofs.lemmas.Bool.{le-leb, ne_eqb}
-use Rattle.text.specs.Continue.{unless}
-use Rattle.chain.specs.Drafts.{is_last}
+use Rattle.text.specs.declared.fault.Fault.TheVariants.{TooMany}
+use Rattle.text.specs.Continue.{and_then, unless, ok_as}
+use Rattle.chain.specs.Drafts.{longer}
 
-module _ {X Y : Type 0} (f : X → Y) (xs : List X) (ys : List Y) (same : map f xs ≡ ys) (fault : Fault) where
-  room_same : (b : Bool) → b ≡ ltb (length xs) 4 → ltb (length ys) 4 ≡ b
-  room_same b e = ap (λ n. ltb n 4) (sym (ap length same) ∙ length-map xs f) ∙ sym e
+module _ {X Y : Type 0} (f : X → Y) (xs ys : List X) (k : ℕ) (place : Result ℕ Fault) (at : Ok k ≡ place) where
+  -- a further line of the last value, of which g says what comes
+  pub placed_last :
+      (zs : List X) (x y : X) (d : Y) (g : Y → Result Y Fault) (next : Result (List Y) Fault)
+      → k < length xs → zs ≡ xs → ys ≡ set xs k y → Ok (f y) ≡ g (f (get_or zs k x))
+      → Ok (map f ys) ≡ and_then place (λ i. cond (ltb i (length (map f xs))) (and_then (g (get_or (map f xs) i d)) (λ s. Ok (set (map f xs) i s))) next)
+  placed_last zs x y d g next within same put q =
+      let was : get_or (map f xs) k d ≡ f (get_or zs k x) = get_or-map f xs k x d within ∙ ap (λ l. f (get_or l k x)) (sym same) in
+      let last : ltb k (length (map f xs)) ≡ true = lt-ltb k (length (map f xs)) (omega (arith, length-map xs f)) in
+      rw (← at, last, was, ← q) (ap (λ l. Ok (map f l)) put ∙ ap Ok (map-set f xs k y))
 
-  -- four lines stand
-  pub further_full : {A : Type 0} (go : Result A Fault) → false ≡ ltb (length xs) 4 → Err fault ≡ unless (ltb (length ys) 4) fault go
-  further_full go e = sym (ap (λ b. unless b fault go) (room_same false e))
+  -- the first line of the next value, of which there is room for so many
+  pub placed_next :
+      (line most : ℕ) (x : X) (first : Result Y Fault) (last : ℕ → Result (List Y) Fault)
+      → length xs ≤ k → length xs < most → ys ≡ xs ++ x ∷ [] → Ok (f x) ≡ first
+      → Ok (map f ys)
+      ≡ and_then place (λ i. cond (ltb i (length (map f xs))) (last i)
+      (and_then first (λ y. unless (ltb (length (map f xs)) most) (TooMany line) (Ok (map f xs ++ y ∷ [])))))
+  placed_next line most x first last past room put q =
+      let next : ltb k (length (map f xs)) ≡ false = le-ltb k (length (map f xs)) (omega (arith, length-map xs f)) in
+      let few : ltb (length (map f xs)) most ≡ true = lt-ltb (length (map f xs)) most (omega (arith, length-map xs f)) in
+      rw (← at, next, ← q, few) (ap (λ l. Ok (map f l)) put ∙ ap Ok (map_push f xs x))
 
-  -- there is room, and x comes last
-  pub further_room :
-      {A : Type 0} (put : List Y → A) (after : List X) (x : X) (y : Y) (new : A) → true ≡ ltb (length xs) 4 → after ≡ xs ++ x ∷ []
-      → f x ≡ y → new ≡ put (map f after) → Ok new ≡ unless (ltb (length ys) 4) fault (Ok (put (ys ++ y ∷ [])))
-  further_room put after x y new e a q p =
-      ap Ok (p ∙ ap put (ap (map f) a ∙ map_push f xs x ∙ (λ i. same i ++ q i ∷ [])))
-      ∙ sym (ap (λ b. unless b fault (Ok (put (ys ++ y ∷ [])))) (room_same true e))
-
--- the number after the last goes to the next one
-pub placed_next : {A : Type 0} (n k : ℕ) (x y : Result A Fault) (fault : Fault) → n ≡ k + 1 → y ≡ cond (is_last n k) x (unless (eqb n (k + 1)) fault y)
-placed_next n k x y fault e =
-    let last : eqb n k ≡ false = ne_eqb n k (λ q. omega arith) in
-    let next : eqb n (k + 1) ≡ true = eq-eqb n (k + 1) e in
-    let low : leb 1 n ≡ true = le-leb 1 n (omega arith) in
-    rw (last, next, low) refl
-
--- the stretch stands again
-pub same_stretch : {A : Type 0} (a b c d : ℕ) (fault : Fault) (go : Result A Fault) → a ≡ b → c ≡ d → go ≡ unless (eqb a b && eqb c d) fault go
-same_stretch a b c d fault go e q = rw (eq-eqb a b e, eq-eqb c d q) refl
+-- a curve with one line more, by what f says of its lines
+pub longer_map : {X Y : Type 0} (f : X → Y) (ls : List X) (line : ℕ) (l : X) → ok_as (map f) (longer ls line l) ≡ longer (map f ls) line (f l)
+longer_map f ls line l = rw (length-map ls f) (go (ltb (length ls) 4))
+  where
+    go : (b : Bool) → ok_as (map f) (unless b (TooMany line) (Ok (ls ++ l ∷ []))) ≡ unless b (TooMany line) (Ok (map f ls ++ f l ∷ []))
+    go true = ap Ok (map_push f ls l)
+    go false = refl

@@ -1,5 +1,6 @@
 -- A list of lines covers another if each line of that one is covered by a line of the first.
-use Rattle.std.specs.Prelude.{Bool, true, false, ◌&&◌, ◌||◌, List, [], ◌∷◌, ◌==◌, nat_le}
+use Rattle.std.specs.Prelude.{Bool, ◌&&◌, List, length, ◌==◌, nat_le}
+use Rattle.std.specs.List.{list_any, list_all, zip}
 use Rattle.chain.specs.declared.line.ArrivalLine.{ArrivalLine}
 use Rattle.chain.specs.declared.line.ServiceLine.{ServiceLine}
 use Rattle.chain.specs.declared.stream.Relay.{Relay}
@@ -16,12 +17,10 @@ service_covers new old = nat_le old.rate new.rate && nat_le new.hold old.hold
 
 module _ {L : Type 0} (covering : L → L → Bool) where
   abbrev pub some_covers : List L → L → Bool
-  some_covers [] old = false
-  some_covers (new ∷ news) old = covering new old || some_covers news old
+  some_covers news old = list_any (λ new. covering new old) news
 
   abbrev pub each_covered : List L → List L → Bool
-  each_covered news [] = true
-  each_covered news (old ∷ olds) = some_covers news old && each_covered news olds
+  each_covered news olds = list_all (some_covers news) olds
 
   -- two curves are the same if each covers the other
   abbrev pub cover_both : List L → List L → Bool
@@ -37,10 +36,7 @@ same_stream a b =
 
 -- as many of the one as of the other, each the same as its counterpart
 abbrev pub all_alike : {T : Type 0} → (T → T → Bool) → List T → List T → Bool
-all_alike same [] [] = true
-all_alike same [] (b ∷ bs) = false
-all_alike same (a ∷ more) [] = false
-all_alike same (a ∷ more) (b ∷ bs) = same a b && all_alike same more bs
+all_alike same xs ys = length xs == length ys && list_all (λ p. same p.0 p.1) (zip xs ys)
 
 -- the same chain: as many relays and streams, the same curves, equal stretches
 abbrev pub same_chain : List Relay → List Stream → List Relay → List Stream → Bool

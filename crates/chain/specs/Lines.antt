@@ -1,31 +1,29 @@
 -- The lines of a chain's text, each by itself.
-use Rattle.std.specs.Prelude.{ℕ, ◌&&◌, List, Ok, codes, Result, ◌==◌, nat_le}
+use Rattle.std.specs.Prelude.{ℕ, ◌&&◌, List, [], ◌∷◌, Ok, codes, Result, ◌==◌, nat_le}
 use Rattle.text.specs.declared.fault.Fault.{Fault}
 use Rattle.text.specs.declared.fault.Fault.TheVariants.{WordCount, OutOfLimits}
 use Rattle.text.specs.Continue.{and_then, unless}
 use Rattle.text.specs.Pieces.{word_count}
-use Rattle.text.specs.Read.{number_at, name_at}
+use Rattle.text.specs.Read.{number_at, names_line}
 use Rattle.chain.specs.Plan.{Sends, Serves}
 
 -- the names above the relays
 abbrev pub relay_names : ℕ → List ℕ → Result (Unit {0}) Fault
-relay_names line l =
-    unless (word_count l == 3) (WordCount line)
-    (and_then (name_at line 1 (codes "relay") l) (λ _. and_then (name_at line 2 (codes "rate") l) (λ _. name_at line 3 (codes "hold") l)))
+relay_names line l = names_line line (codes "relay" ∷ (codes "rate" ∷ (codes "hold" ∷ []))) l
 
 -- the names above the streams
 abbrev pub stream_names : ℕ → List ℕ → Result (Unit {0}) Fault
-stream_names line l =
-    unless (word_count l == 5) (WordCount line)
-    (and_then (name_at line 1 (codes "stream") l) (λ _. and_then (name_at line 2 (codes "from") l) (λ _. and_then (name_at line 3 (codes "to") l) (λ _. and_then (name_at line 4 (codes "burst") l) (λ _. name_at line 5 (codes "rate") l)))))
+stream_names line l = names_line line (codes "stream" ∷ (codes "from" ∷ (codes "to" ∷ (codes "burst" ∷ (codes "rate" ∷ []))))) l
 
--- a relay's number and a line of its curve
+-- a relay's number and a line of its curve, at a line of the text
 pub record RelayLine : Type 0 where
+  pub at : ℕ
   pub number : ℕ
   pub line : Serves
 
--- a stream's number, its stretch and a line of its curve
+-- a stream's number, its stretch and a line of its curve, at a line of the text
 pub record StreamLine : Type 0 where
+  pub at : ℕ
   pub number : ℕ
   pub from : ℕ
   pub to : ℕ
@@ -47,10 +45,10 @@ abbrev pub relay_line : ℕ → List ℕ → Result RelayLine Fault
 relay_line line l =
     unless (word_count l == 3) (WordCount line)
     (and_then (number_at line 1 l) (λ n. and_then (number_at line 2 l) (λ r. and_then (number_at line 3 l) (λ h.
-    and_then (service_in line r h) (λ s. Ok (record { number = n; line = s }))))))
+    and_then (service_in line r h) (λ s. Ok (record { at = line; number = n; line = s }))))))
 
 abbrev pub stream_line : ℕ → List ℕ → Result StreamLine Fault
 stream_line line l =
     unless (word_count l == 5) (WordCount line)
     (and_then (number_at line 1 l) (λ n. and_then (number_at line 2 l) (λ a. and_then (number_at line 3 l) (λ b. and_then (number_at line 4 l) (λ u. and_then (number_at line 5 l) (λ r.
-    and_then (arrival_in line u r) (λ s. Ok (record { number = n; from = a; to = b; line = s }))))))))
+    and_then (arrival_in line u r) (λ s. Ok (record { at = line; number = n; from = a; to = b; line = s }))))))))

@@ -5,7 +5,7 @@ use Rattle.chain.specs.Lines.{RelayLine, StreamLine}
 use Rattle.chain.specs.Plan.{sends, serves}
 
 abbrev pub relay_line_of : RelayRow → RelayLine
-relay_line_of r = record { number = r.number; line = serves r.line }
+relay_line_of r = record { at = r.at; number = r.number; line = serves r.line }
 
 abbrev pub stream_line_of : StreamRow → StreamLine
-stream_line_of r = record { number = r.number; from = r.from; to = r.to; line = sends r.line }
+stream_line_of r = record { at = r.at; number = r.number; from = r.from; to = r.to; line = sends r.line }

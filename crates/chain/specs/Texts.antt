@@ -8,7 +8,7 @@ use Rattle.text.specs.Pieces.{pieces}
 use Rattle.text.specs.Read.{begins_with}
 use Rattle.chain.specs.declared.draft.Draft.{Draft}
 use Rattle.chain.specs.declared.draft.Draft.TheVariants.{Empty, Relays, Streams}
-use Rattle.chain.specs.declared.draft.StreamDraft.{StreamDraft}
+use Rattle.chain.specs.declared.draft.streams.StreamDraft.{StreamDraft}
 use Rattle.chain.specs.Drafts.{place_relay, place_stream, relay_plans, stream_plans}
 use Rattle.chain.specs.Lines.{relay_names, stream_names, relay_line, stream_line}
 use Rattle.chain.specs.Plan.{Plan, Serves, StreamPlan}
@@ -24,10 +24,10 @@ abbrev pub relay_step : List (List Serves) → ℕ → List ℕ → Result Stage
 relay_step rs line l =
     cond (begins_with (codes "stream") l)
     (and_then (stream_names line l) (λ _. unless (nat_le 1 (length rs)) (NoRelay line) (Ok (streams rs []))))
-    (and_then (relay_line line l) (λ r. and_then (place_relay rs line r) (λ more. Ok (relays more))))
+    (and_then (relay_line line l) (λ r. and_then (place_relay rs r) (λ more. Ok (relays more))))
 
 abbrev pub stream_step : List (List Serves) → List StreamPlan → ℕ → List ℕ → Result Stage Fault
-stream_step rs ss line l = and_then (stream_line line l) (λ r. and_then (place_stream (length rs) ss line r) (λ more. Ok (streams rs more)))
+stream_step rs ss line l = and_then (stream_line line l) (λ r. and_then (place_stream (length rs) ss r) (λ more. Ok (streams rs more)))
 
 abbrev pub chain_step : Stage → ℕ → List ℕ → Result Stage Fault
 chain_step nothing line l = and_then (relay_names line l) (λ _. Ok (relays []))

@@ -5,14 +5,14 @@ ghost use Rattle.chain.specs.Covers.{arrival_covers, service_covers, some_covers
 use crate::line::{ArrivalLine, ServiceLine};
 
 // Which of two lines binds no less: a line of a new curve that keeps what a line of the old one promised.
-pub trait Line: Copy {
+pub trait CurveLine: Copy {
     ghost covering: { Self → Self → Bool };
 
     fn covers(&self, old: &Self) -> bool
         ensures { result ≡ covering self.now old.now };
 }
 
-impl Line for ArrivalLine {
+impl CurveLine for ArrivalLine {
     ghost covering = { arrival_covers };
 
     fn covers(&self, old: &ArrivalLine) -> bool {
@@ -20,7 +20,7 @@ impl Line for ArrivalLine {
     }
 }
 
-impl Line for ServiceLine {
+impl CurveLine for ServiceLine {
     ghost covering = { service_covers };
 
     fn covers(&self, old: &ServiceLine) -> bool {
@@ -28,32 +28,22 @@ impl Line for ServiceLine {
     }
 }
 
-fn some_covers<L: Line>(new: &[L], old: &L) -> bool
-    ensures { result ≡ some_covers L.Line.covering new.now old.now }
+fn some_covers<L: CurveLine>(new: &[L], old: &L) -> bool
+    ensures { result ≡ some_covers L.CurveLine.covering new.now old.now }
 {
-    for line in new {
-        if line.covers(old) {
-            return true;
-        }
-    }
-    false
+    new.iter().any(|line| line.covers(old))
 }
 
 // Whether a curve of the lines `new` covers one of the lines `old`.
-pub fn covers_curve<L: Line>(new: &[L], old: &[L]) -> bool
-    ensures { result ≡ each_covered L.Line.covering new.now old.now }
+pub fn covers_curve<L: CurveLine>(new: &[L], old: &[L]) -> bool
+    ensures { result ≡ each_covered L.CurveLine.covering new.now old.now }
 {
-    for line in old {
-        if !some_covers(new, line) {
-            return false;
-        }
-    }
-    true
+    old.iter().all(|line| some_covers(new, line))
 }
 
 // Whether two curves are the same, that is, cover each other.
-pub fn same_curve<L: Line>(a: &[L], b: &[L]) -> bool
-    ensures { result ≡ cover_both L.Line.covering a.now b.now }
+pub fn same_curve<L: CurveLine>(a: &[L], b: &[L]) -> bool
+    ensures { result ≡ cover_both L.CurveLine.covering a.now b.now }
 {
     covers_curve(a, b) && covers_curve(b, a)
 }

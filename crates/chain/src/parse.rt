@@ -7,40 +7,28 @@ ghost use Rattle.chain.specs.Plan.{sends, serves};
 
 use crate::line::{ArrivalLine, ServiceLine};
 use crate::row::{RelayRow, StreamRow};
-use text::cut::word_count;
 use text::fault::Fault;
-use text::read::{name_at, number_at};
+use text::line::Line;
 
 // The names above the relays.
-pub fn relay_names(row: &[u8], line: u32) -> Result<(), Fault>
-    ensures { result ≡ relay_names line row.now }
+pub fn relay_names(line: Line) -> Result<(), Fault>
+    ensures { result ≡ relay_names line.entry.number line.entry.bytes.now }
 {
-    if word_count(row) != 3 {
-        return Err(Fault::WordCount { line });
-    }
-    name_at(row, line, 1, b"relay")?;
-    name_at(row, line, 2, b"rate")?;
-    name_at(row, line, 3, b"hold")
+    line.expect_names(&["relay", "rate", "hold"])
 }
 
 // The names above the streams.
-pub fn stream_names(row: &[u8], line: u32) -> Result<(), Fault>
-    ensures { result ≡ stream_names line row.now }
+pub fn stream_names(line: Line) -> Result<(), Fault>
+    ensures { result ≡ stream_names line.entry.number line.entry.bytes.now }
 {
-    if word_count(row) != 5 {
-        return Err(Fault::WordCount { line });
-    }
-    name_at(row, line, 1, b"stream")?;
-    name_at(row, line, 2, b"from")?;
-    name_at(row, line, 3, b"to")?;
-    name_at(row, line, 4, b"burst")?;
-    name_at(row, line, 5, b"rate")
+    line.expect_names(&["stream", "from", "to", "burst", "rate"])
 }
 
+// Each limit stands where it is stated; a function for all of them would take value, word and two bounds, four numbers in a row.
 fn service_in(line: u32, rate: u32, hold: u32) -> Result<ServiceLine, Fault>
     ensures { ok_as serves result ≡ service_in line rate hold }
 {
-    if rate < 1 || rate > 1_048_576 {
+    if !(1..=1_048_576).contains(&rate) {
         return Err(Fault::OutOfLimits { line, word: 2 });
     }
     if hold > 16_777_216 {
@@ -52,7 +40,7 @@ fn service_in(line: u32, rate: u32, hold: u32) -> Result<ServiceLine, Fault>
 fn arrival_in(line: u32, burst: u32, rate: u32) -> Result<ArrivalLine, Fault>
     ensures { ok_as sends result ≡ arrival_in line burst rate }
 {
-    if burst < 1 || burst > 16_777_216 {
+    if !(1..=16_777_216).contains(&burst) {
         return Err(Fault::OutOfLimits { line, word: 4 });
     }
     if rate > 1_048_576 {
@@ -62,39 +50,35 @@ fn arrival_in(line: u32, burst: u32, rate: u32) -> Result<ArrivalLine, Fault>
 }
 
 // A line of a relay.
-pub fn relay_row(row: &[u8], line: u32) -> Result<RelayRow, Fault>
-    ensures { ok_as relay_line_of result ≡ relay_line line row.now }
+pub fn relay_row(line: Line) -> Result<RelayRow, Fault>
+    ensures { ok_as relay_line_of result ≡ relay_line line.entry.number line.entry.bytes.now }
 {
-    if word_count(row) != 3 {
-        return Err(Fault::WordCount { line });
-    }
-    let number = number_at(row, line, 1)?;
-    let rate = number_at(row, line, 2)?;
-    let hold = number_at(row, line, 3)?;
-    let service = service_in(line, rate, hold)?;
+    line.expect_words(3)?;
+    let number = line.number_at(1)?;
+    let rate = line.number_at(2)?;
+    let hold = line.number_at(3)?;
     Ok(RelayRow {
+        at: line.number,
         number,
-        line: service,
+        line: service_in(line.number, rate, hold)?,
     })
 }
 
 // A line of a stream.
-pub fn stream_row(row: &[u8], line: u32) -> Result<StreamRow, Fault>
-    ensures { ok_as stream_line_of result ≡ stream_line line row.now }
+pub fn stream_row(line: Line) -> Result<StreamRow, Fault>
+    ensures { ok_as stream_line_of result ≡ stream_line line.entry.number line.entry.bytes.now }
 {
-    if word_count(row) != 5 {
-        return Err(Fault::WordCount { line });
-    }
-    let number = number_at(row, line, 1)?;
-    let from = number_at(row, line, 2)?;
-    let to = number_at(row, line, 3)?;
-    let burst = number_at(row, line, 4)?;
-    let rate = number_at(row, line, 5)?;
-    let arrival = arrival_in(line, burst, rate)?;
+    line.expect_words(5)?;
+    let number = line.number_at(1)?;
+    let from = line.number_at(2)?;
+    let to = line.number_at(3)?;
+    let burst = line.number_at(4)?;
+    let rate = line.number_at(5)?;
     Ok(StreamRow {
+        at: line.number,
         number,
         from,
         to,
-        line: arrival,
+        line: arrival_in(line.number, burst, rate)?,
     })
 }

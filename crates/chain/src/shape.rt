@@ -37,7 +37,7 @@ impl Stretch {
     pub fn position(&self, relay: u32) -> Option<u32>
         ensures { result ≡ position_of self.now relay }
     {
-        if relay < self.from || self.to < relay {
+        if !(self.from..=self.to).contains(&relay) {
             return None;
         }
         Some(relay - self.from)

@@ -1,4 +1,5 @@
-// The table of a chain's streams, in the order of their numbers.
+// The table of a chain's streams, in the order of their numbers: by a rule of the project a plain struct, and the chain around it
+// says what it keeps.
 ghost use Rattle.std.specs.Prelude.{◌≡◌};
 
 use crate::stream::Stream;

@@ -1,5 +1,4 @@
 -- The lemmas of the proofs.
 pub mod Ints
-pub mod Machine
 pub mod SumLaws
 pub mod Lowest

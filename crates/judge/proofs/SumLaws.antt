@@ -1,9 +1,10 @@
 -- What the loop over the terms of a row needs.
-use Rattle.std.proofs.Common.{◌≡◌, ℕ, ◌+◌, ◌-◌, ◌*◌, ◌^◌, ◌<◌, ◌≤◌, true, false, cond, eqb, ◌≢◌, List, [], ◌∷◌, ◌++◌, length, get_or, take, set, ℤ, pos, ◌+ℤ◌, ◌*ℤ◌, nat_abs, sym, ap, ◌∙◌, subst, ⊎_elim, mul-le-mul_right, add-mul, arith}
+use Rattle.std.proofs.Common.{◌≡◌, ℕ, ◌+◌, ◌-◌, ◌*◌, ◌^◌, ◌<◌, ◌≤◌, cond, eqb, ◌≢◌, List, [], ◌∷◌, ◌++◌, length, get_or, take, set, ℤ, pos, ◌+ℤ◌, ◌*ℤ◌, nat_abs, refl, inl, inr, ap, ◌∙◌, mul-le-mul_right, add-mul, arith}
 use borrow.Author.Differences.{ints}
-use lib.IntN.{+ℤ_assoc, +ℤ_idr}
+use lib.IntN.{+ℤ_idr}
 use Rattle.std.specs.List.{AllByRecursion}
-use Rattle.std.proofs.lemmas.List.{take_more, get_or-set_same, get_or-set_other}
+use Rattle.std.proofs.lemmas.List.{take_more, get_or-set_other}
+use Rattle.std.proofs.lemmas.Grind.{get_or-set_at}
 use Rattle.std.proofs.ByRecursion.{All-get_or, All-from_get_or, All-weaker}
 use Rattle.std.proofs.lemmas.Bool.Decides.{eqb_tells}
 use Rattle.sheet.specs.declared.row.Term.{Term}
@@ -25,15 +26,12 @@ module _ {X : Type 0} (f : X → ℤ) where
   sum_z_small b (x ∷ xs) a = omega (arith, a.0, sum_z_small b xs a.1, abs_plus (f x) (sum_z f xs), add-mul 1 (length xs) b)
 
 here_small : (n : ℕ) (t : Term) (u : ℕ) → Fine n t → nat_abs (cond (eqb t.unknown u) t.times (pos 0)) ≤ 1048576
-here_small n t u f = let s = f.small in elim (eqb t.unknown u) as (λ b. nat_abs (cond b t.times (pos 0)) ≤ 1048576) [ true ↦ s | false ↦ omega arith ]
+here_small n t u f = let s = f.small in grind arith
 
 -- what the terms of a row multiply an unknown by is small
 pub coefficient_small : (n : ℕ) (ts : List Term) (u : ℕ) → AllByRecursion (Fine n) ts → length ts ≤ 34 → nat_abs (coefficient ts u) ≤ 34 * 1048576
 coefficient_small n ts u a l =
     omega (arith, sum_z_small (λ t. cond (eqb t.unknown u) t.times (pos 0)) 1048576 ts (All-weaker (Fine n) _ (λ t f. here_small n t u f) ts a), mul-le-mul_right 1048576 l)
-
-put_same : (S : List ℤ) (j k : ℕ) (v : ℤ) → j ≡ k → j < length S → get_or (set S j v) k (pos 0) ≡ v
-put_same S j k v e h = subst (λ (n : ℕ). get_or (set S j v) n (pos 0) ≡ v) e (get_or-set_same S j v (pos 0) h)
 
 -- one term more is added at its place: every sum has it
 pub term_more : (S S₀ : List ℤ) (ts : List Term) (i : ℕ) (d : Term) (m : ℤ) → length S ≡ length S₀ → i < length ts → 1 ≤ (get_or ts i d).unknown → (get_or ts i d).unknown ≤ length S
@@ -44,19 +42,12 @@ term_more S S₀ ts i d m same lt low high inv k h =
     let q : ℤ = (get_or ts i d).times in
     let old = coefficient (take i ts) (k + 1) in
     let was = inv k h in
-    let v : ℤ = get_or S (u - 1) (pos 0) +ℤ m *ℤ q in
     let more : coefficient (take (i + 1) ts) (k + 1) ≡ old +ℤ cond (eqb u (k + 1)) q (pos 0) = sum_z_more _ ts i d lt in
-    rw more (⊎_elim
-    (λ (p : (eqb u (k + 1) ≡ true) × (u ≡ k + 1)).
-    let at : u - 1 ≡ k = omega (arith, p.1) in
-    let e : get_or S (u - 1) (pos 0) ≡ get_or S k (pos 0) = ap (λ n. get_or S n (pos 0)) at in
-    put_same S (u - 1) k v at (omega arith) ∙ ap (λ z. z +ℤ m *ℤ q) (e ∙ was) ∙ +ℤ_assoc (get_or S₀ k (pos 0)) (m *ℤ old) (m *ℤ q)
-    ∙ ap (λ z. get_or S₀ k (pos 0) +ℤ z) (sym (times_plus m old q)) ∙ ap (λ b. get_or S₀ k (pos 0) +ℤ m *ℤ (old +ℤ cond b q (pos 0))) (sym p.0))
-    (λ (p : (eqb u (k + 1) ≡ false) × (u ≡ k + 1 → ⊥)).
-    let ne : k ≢ u - 1 = λ e. p.1 (omega arith) in
-    get_or-set_other S (u - 1) k v (pos 0) ne ∙ was
-    ∙ ap (λ z. get_or S₀ k (pos 0) +ℤ m *ℤ z) (sym (+ℤ_idr old)) ∙ ap (λ b. get_or S₀ k (pos 0) +ℤ m *ℤ (old +ℤ cond b q (pos 0))) (sym p.0))
-    (eqb_tells u (k + 1)))
+    let two = times_plus m old q in
+    rw more (elim (eqb_tells u (k + 1)) [
+      | inl p ↦ rw p.0 (let at : k ≡ u - 1 = omega (arith, p.1) in rw (get_or-set_at S (u - 1) k _ (pos 0) at (omega arith), ← at, was, two) (omega (arith, ints)))
+      | inr p ↦ rw p.0 (let ne : k ≢ u - 1 = λ e. p.1 (omega arith) in rw (get_or-set_other S (u - 1) k _ (pos 0) ne, was, +ℤ_idr) refl)
+    ])
 
 -- a sum after part of a row
 pub sum_within : (z z₀ : ℤ) (b m : ℕ) (c : ℤ) → z ≡ z₀ +ℤ pos m *ℤ c → nat_abs z₀ ≤ b → m ≤ 1048576 → nat_abs c ≤ 34 * 1048576 → nat_abs z ≤ b + 34 * 2 ^ 40

@@ -1,16 +1,16 @@
 -- The lines of a paper after its goal line, for a sheet that says which places and rows there are.
-use Rattle.std.specs.Prelude.{ℕ, ◌+◌, ◌≤◌, cond, ◌&&◌, List, length, Ok, Err, codes, Result, ◌==◌, nat_le, nat_lt}
+use Rattle.std.specs.Prelude.{ℕ, ◌+◌, cond, ◌&&◌, List, [], ◌∷◌, Ok, Err, codes, Result, ◌==◌, nat_le, nat_lt}
 use Rattle.text.specs.declared.fault.Fault.{Fault}
 use Rattle.text.specs.declared.fault.Fault.TheVariants.{WordCount, OutOfLimits, FallingPlace, TooMany, NamesNothing}
 use Rattle.text.specs.Continue.{and_then, unless}
 use Rattle.text.specs.Lines.{first_line, read_lines}
 use Rattle.text.specs.Pieces.{pieces, word_count}
-use Rattle.text.specs.Read.{number_at, name_at}
+use Rattle.text.specs.Read.{number_at, names_line}
 use Rattle.sheet.specs.Kind.{Kind}
 use Rattle.judge.specs.declared.entry.Entry.{Entry}
 use Rattle.judge.specs.declared.fault.JudgeFault.{JudgeFault}
 use Rattle.judge.specs.declared.fault.JudgeFault.TheVariants.{Reading, MemoryTooShort}
-use Rattle.judge.specs.declared.lines.Lines.{Lines}
+use Rattle.judge.specs.declared.lines.PaperLines.{PaperLines}
 
 -- so many times a row of a place, in plain numbers
 pub record Weight : Type 0 where
@@ -23,9 +23,7 @@ weight_of e = record { place = e.place; row = e.row; times = e.times }
 
 -- the names above the lines
 abbrev pub entry_names : ℕ → List ℕ → Result (Unit {0}) Fault
-entry_names line l =
-    unless (word_count l == 3) (WordCount line)
-    (and_then (name_at line 1 (codes "place") l) (λ _. and_then (name_at line 2 (codes "row") l) (λ _. name_at line 3 (codes "times") l)))
+entry_names line l = names_line line (codes "place" ∷ (codes "row" ∷ (codes "times" ∷ []))) l
 
 -- place, row and times, which is from 1 to 1,048,576
 abbrev pub entry_line : ℕ → List ℕ → Result Weight Fault
@@ -41,14 +39,19 @@ pub record Checking : Type 0 where
   pub place : ℕ
   pub lines : ℕ
 
+-- there are such a place and such a row of it
+abbrev pub row_there : ℕ → (ℕ → ℕ) → ℕ → Weight → Result (Unit {0}) Fault
+row_there places rows line w =
+    unless (nat_le 1 w.place && nat_le w.place places) (NamesNothing line 1)
+    (unless (nat_le 1 w.row && nat_le w.row (rows w.place)) (NamesNothing line 2) (Ok tt))
+
 -- places do not fall, there are at most 4,096 lines, and each names a place and a row that are there
 abbrev pub entry_in : Checking → ℕ → Weight → Result Checking Fault
 entry_in s line w =
     unless (nat_le s.place w.place) (FallingPlace line)
     (unless (nat_lt s.lines 4096) (TooMany line)
-    (unless (nat_le 1 w.place && nat_le w.place s.places) (NamesNothing line 1)
-    (unless (nat_le 1 w.row && nat_le w.row (s.rows w.place)) (NamesNothing line 2)
-    (Ok (record { places = s.places; rows = s.rows; place = w.place; lines = s.lines + 1 })))))
+    (and_then (row_there s.places s.rows line w) (λ _.
+    Ok (record { places = s.places; rows = s.rows; place = w.place; lines = s.lines + 1 }))))
 
 abbrev pub entry_step : Checking → ℕ → List ℕ → Result Checking Fault
 entry_step s line l = and_then (entry_line line l) (entry_in s line)
@@ -62,12 +65,8 @@ abbrev pub check_lines : ℕ → (ℕ → ℕ) → ℕ → List ℕ → Result (
 check_lines places rows n l = and_then (read_lines entry_step (unchecked places rows) n (pieces 10 l)) (λ _. Ok tt)
 
 -- the bytes of the lines that are left
-abbrev pub bytes_of : Lines → List ℕ
-bytes_of l = l.text.now
-
--- lines within the limit of a text, whose numbers stay small
-abbrev pub Short : Lines → Type 0
-Short l = (length l.text.now ≤ 65536) × (l.line + length l.text.now ≤ 131072)
+abbrev pub bytes_of : PaperLines → List ℕ
+bytes_of l = l.lines.text.now
 
 -- an outcome of reading, as an outcome of judging
 abbrev pub reading : {A : Type 0} → Result A Fault → Result A JudgeFault

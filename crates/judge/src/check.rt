@@ -1,11 +1,26 @@
 // Checks the lines of a paper before any of them is weighed.
-ghost use Rattle.std.specs.Prelude.{◌≡◌, ◌+◌, ◌^◌, ◌<◌, length};
-ghost use Rattle.judge.specs.Papers.{Checking, check_lines, entry_step};
+ghost use Rattle.std.specs.Prelude.{◌≡◌};
+ghost use Rattle.judge.specs.Papers.{Checking, check_lines, entry_step, row_there, weight_of};
 
+use crate::entry::Entry;
 use crate::line::entry_of;
 use sheet::sheet::Sheet;
 use text::fault::Fault;
-use text::lines::{LineSink, read_lines};
+use text::line::Line;
+use text::lines::{LineSink, Lines, read_lines};
+
+// Refuses a place that the sheet does not have, and a row that the place does not have.
+fn expect_row<S: Sheet>(sheet: &S, entry: Entry, line: u32) -> Result<(), Fault>
+    ensures { result ≡ row_there (S.Sheet.meaning sheet.now).places (S.Sheet.meaning sheet.now).rows line (weight_of entry) }
+{
+    if !(1..=sheet.places()).contains(&entry.place) {
+        return Err(Fault::NamesNothing { line, word: 1 });
+    }
+    if !(1..=sheet.rows(entry.place)).contains(&entry.row) {
+        return Err(Fault::NamesNothing { line, word: 2 });
+    }
+    Ok(())
+}
 
 // The place of the last line, 0 before the first, and how many lines there were.
 #[derive(Clone, Copy)]
@@ -22,36 +37,31 @@ impl<'a, S: Sheet> LineSink for LineCheck<'a, S> {
 
     ghost step = { entry_step };
 
-    fn take_line(&mut self, line: u32, row: &[u8]) -> Result<(), Fault> {
-        let entry = entry_of(row, line)?;
+    fn take_line(&mut self, line: Line) -> Result<(), Fault> {
+        let entry = entry_of(line)?;
+        let line = line.number;
         if entry.place < self.place {
             return Err(Fault::FallingPlace { line });
         }
         if self.lines >= 4096 {
             return Err(Fault::TooMany { line });
         }
-        if entry.place < 1 || entry.place > self.sheet.places() {
-            return Err(Fault::NamesNothing { line, word: 1 });
-        }
-        if entry.row < 1 || entry.row > self.sheet.rows(entry.place) {
-            return Err(Fault::NamesNothing { line, word: 2 });
-        }
+        expect_row(self.sheet, entry, line)?;
         self.place = entry.place;
         self.lines += 1;
         Ok(())
     }
 }
 
-// Checks all lines of a text, whose first has the number `first`.
-pub fn check_lines<S: Sheet>(sheet: &S, text: &[u8], first: u32) -> Result<(), Fault>
-    requires { first + length text.now < 2 ^ 32 }
-    ensures { result ≡ check_lines (S.Sheet.meaning sheet.now).places (S.Sheet.meaning sheet.now).rows first text.now }
+// Checks all lines of a text.
+pub fn check_lines<S: Sheet>(sheet: &S, lines: Lines) -> Result<(), Fault>
+    ensures { result ≡ check_lines (S.Sheet.meaning sheet.now).places (S.Sheet.meaning sheet.now).rows lines.entry.first lines.entry.text.now }
 {
     let mut check = LineCheck {
         sheet,
         place: 0,
         lines: 0,
     };
-    read_lines(&mut check, text, first)?;
+    read_lines(&mut check, lines)?;
     Ok(())
 }

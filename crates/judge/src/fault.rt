@@ -20,32 +20,25 @@ pub enum JudgeFault {
 impl From<Fault> for JudgeFault {
     ghost from_gives = { λ f r. r ≡ Reading f };
 
-    fn from(f: Fault) -> JudgeFault {
-        JudgeFault::Reading(f)
+    fn from(fault: Fault) -> JudgeFault {
+        JudgeFault::Reading(fault)
     }
 }
 
-impl JudgeFault {
-    pub fn refusal(self) -> Refusal
-        ensures { result ≡ judge_refusal self }
-    {
-        match self {
-            JudgeFault::Reading(fault) => fault.refusal(),
-            JudgeFault::MemoryTooShort => Refusal {
-                number: 8,
-                first: 0,
-                second: 0,
-            },
-            JudgeFault::Misses { place, unknown } => Refusal {
-                number: 6,
-                first: place,
-                second: unknown,
-            },
-            JudgeFault::NotBelow { place } => Refusal {
-                number: 7,
-                first: place,
-                second: 0,
-            },
+impl From<JudgeFault> for Refusal {
+    ghost from_gives = { λ f r. r ≡ judge_refusal f };
+
+    fn from(fault: JudgeFault) -> Refusal {
+        let (number, first, second) = match fault {
+            JudgeFault::Reading(fault) => return fault.into(),
+            JudgeFault::MemoryTooShort => (8, 0, 0),
+            JudgeFault::Misses { place, unknown } => (6, place, unknown),
+            JudgeFault::NotBelow { place } => (7, place, 0),
+        };
+        Refusal {
+            number,
+            first,
+            second,
         }
     }
 }

@@ -1,8 +1,11 @@
 // The lines of a paper that are still to be weighed.
+ghost use Rattle.std.specs.Prelude.{◌≤◌, length};
 
-// What is left of a text, and the number of its first line.
+use text::lines::Lines;
+
+// What is left of a text within its limit.
 #[derive(Clone, Copy)]
-pub struct Lines<'a> {
-    pub text: &'a [u8],
-    pub line: u32,
+pub struct PaperLines<'a> {
+    pub lines: Lines<'a>,
+    ghost short: { length lines.text.now ≤ 65536 },
 }

@@ -1,7 +1,7 @@
-// The sums of the unknowns, in memory that the caller lends: the sum of the unknown k stands at k - 1.
-ghost use Rattle.std.specs.Prelude.{◌≡◌, ℕ, ◌+◌, ◌-◌, ◌*◌, ◌^◌, ◌<◌, ◌≤◌, length, pos, ◌+ℤ◌, ◌*ℤ◌, int_lt, slice_index_or, slice_set, unsigned_abs};
+// The sums of the unknowns, in memory that the caller lends: the sum of the unknown k stands at k - 1. What they are multiplied by is
+// the times of an entry or the scale of a paper, two types with the same limit, so it is a plain number here.
+ghost use Rattle.std.specs.Prelude.{◌≡◌, ℕ, ◌+◌, ◌-◌, ◌*◌, ◌^◌, ◌<◌, ◌≤◌, length, replicate, pos, ◌+ℤ◌, ◌*ℤ◌, slice_index_or, slice_set, unsigned_abs};
 ghost use Rattle.std.specs.List.{AllByRecursion};
-ghost use Rattle.sheet.specs.Kind.{Limits};
 ghost use Rattle.sheet.specs.Rows.{Fine, Fits, terms_of};
 ghost use Rattle.judge.specs.Sums.{coefficient, lowest, misses};
 
@@ -9,28 +9,23 @@ use sheet::row::{Row, Term};
 use sheet::sheet::Sheet;
 
 pub fn clear(sums: &mut [i64])
-    ensures { (k : ℕ) → k < length sums.new → slice_index_or sums.new k (pos 0) ≡ pos 0 }
+    ensures { sums.new ≡ replicate (length sums.old) (pos 0) }
 {
-    for sum in sums.iter_mut() {
-        *sum = 0;
-    }
+    sums.fill(0);
 }
 
+#[tactic(auto, using(crate::proofs::Ints::abs_times, crate::proofs::Ints::back_is))]
 pub fn scaled(factor: u32, z: i64) -> i64
     requires factor { factor ≤ 1048576 }
     requires number { unsigned_abs z ≤ 2 ^ 25 }
-    ensures { result ≡ pos factor *ℤ z }
+    ensures value { result ≡ pos factor *ℤ z }
+    ensures small { unsigned_abs result ≤ 2 ^ 45 }
 {
     i64::from(factor) * z
 }
 
-pub fn below(a: i64, b: i64) -> bool
-    ensures { result ≡ int_lt a b }
-{
-    a < b
-}
-
 // Adds so many times one term to the sum of its unknown.
+#[tactic(auto, using(crate::proofs::Ints::abs_plus, crate::proofs::Ints::back_is))]
 pub fn add_term(sums: &mut [i64], times: u32, term: Term)
     requires fine { Fine (length sums.old) term }
     requires few { times ≤ 1048576 }
@@ -48,23 +43,22 @@ pub fn add_row(row: &Row, times: u32, sums: &mut [i64])
     ensures added { (k : ℕ) → k < length sums.old → slice_index_or sums.new k (pos 0) ≡ slice_index_or sums.old k (pos 0) +ℤ pos times *ℤ coefficient (terms_of row.now) (k + 1) }
     ensures bound { (b : ℕ) → AllByRecursion (λ z. unsigned_abs z ≤ b) sums.old → AllByRecursion (λ z. unsigned_abs z ≤ b + 34 * 2 ^ 40) sums.new }
 {
-    let terms = row.terms();
-    for term in terms {
+    for term in row.terms() {
         add_term(sums, times, *term);
     }
 }
 
 // The lowest unknown whose sum is not scale times what the goal multiplies it by.
 pub fn find_miss<S: Sheet>(sheet: &S, scale: u32, sums: &[i64]) -> Option<u32>
-    requires limits { Limits (S.Sheet.meaning sheet.now) }
     requires scale { scale ≤ 1048576 }
     requires room { length sums.now ≡ (S.Sheet.meaning sheet.now).unknowns }
     ensures { result ≡ lowest (misses (S.Sheet.meaning sheet.now).goal scale sums.now) 1 (S.Sheet.meaning sheet.now).unknowns }
 {
-    let unknowns = sheet.unknowns();
-    for i in 0..unknowns {
-        if sums[i as usize] != scaled(scale, sheet.goal(i + 1)) {
-            return Some(i + 1);
+    // A loop, since of `position` over the sums three goals stayed open.
+    for (k, sum) in sums.iter().enumerate() {
+        let unknown = k as u32 + 1;
+        if *sum != scaled(scale, sheet.goal(unknown)) {
+            return Some(unknown);
         }
     }
     None

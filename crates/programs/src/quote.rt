@@ -16,10 +16,10 @@ fn write_quotes(
     ensures { Wrote out.old result out.new }
 {
     let mut book = Book::new();
-    let _ = book.open(heap, chain)?;
+    book.open(heap, chain)?;
     let mut sums = [0i64; 320];
     let verdict = book.judge(paper, &mut sums)?;
-    let _ = book.enter(verdict)?;
+    book.enter(verdict)?;
     book.write_quotes(out)
 }
 
@@ -28,8 +28,9 @@ fn write_quotes(
 pub fn answer(heap: Global, chain: &[u8], paper: &[u8], out: &mut [u8]) -> Result<usize, BookFault>
     ensures { Wrote out.old result out.new }
 {
+    // Not by `or_else`: of what its closure leaves in `out` nothing would be known.
     match write_quotes(heap, chain, paper, out) {
-        Ok(length) => Ok(length),
         Err(fault) => write_refusal(fault, out),
+        written => written,
     }
 }

@@ -1,3 +1,2 @@
-pub mod Terms
 pub mod Counts
-pub mod GoalLaws
+pub mod StreamLaws

@@ -1,5 +1,5 @@
 -- The part of a chain that leads to one relay, and how many unknowns it has.
-use Rattle.std.specs.Prelude.{◌≡◌, ℕ, ◌+◌, ◌-◌, ◌*◌, ◌/◌, ◌≤◌, min, cond, List, [], ◌∷◌, length, take, nat_le}
+use Rattle.std.specs.Prelude.{◌≡◌, ℕ, ◌+◌, ◌-◌, ◌*◌, ◌/◌, ◌≤◌, min, cond, List, length, take, sum_by, nat_le}
 use Rattle.chain.specs.Curves.{lines_of}
 use Rattle.chain.specs.Shape.{next, hops}
 use Rattle.chain.specs.Views.{relays_of, streams_of}
@@ -28,8 +28,7 @@ abbrev pub width_of : ℕ → Stretch → ℕ
 width_of last s = cond (nat_le s.from last) (2 * (kept_hops last s + 1)) 0
 
 abbrev pub widths : ℕ → List Stream → ℕ
-widths last [] = 0
-widths last (s ∷ ss) = width_of last s.stretch + widths last ss
+widths last ss = sum_by (λ s. width_of last s.stretch) ss
 
 -- a date for each relay and one after the last, then the values of each stream
 abbrev pub part_unknowns : Chain → ℕ → ℕ
@@ -47,13 +46,11 @@ abbrev pub stream_rows : ℕ → Stream → ℕ
 stream_rows last s = cond (nat_le s.stretch.from last) (rows_of (kept_hops last s.stretch) (length (lines_of s.curve))) 0
 
 abbrev pub streams_rows : ℕ → List Stream → ℕ
-streams_rows last [] = 0
-streams_rows last (s ∷ ss) = stream_rows last s + streams_rows last ss
+streams_rows last ss = sum_by (stream_rows last) ss
 
 -- a row for each line of each relay
 abbrev pub relays_rows : List Relay → ℕ
-relays_rows [] = 0
-relays_rows (r ∷ rs) = length (lines_of r.curve) + relays_rows rs
+relays_rows rs = sum_by (λ r. length (lines_of r.curve)) rs
 
 -- the dates never fall, the relays serve, and the rows of each stream
 abbrev pub part_rows : Chain → ℕ → ℕ

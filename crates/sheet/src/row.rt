@@ -1,5 +1,7 @@
 // One row of a sheet.
-ghost use Rattle.std.specs.Prelude.{◌≡◌, ◌≤◌, length};
+ghost use Rattle.std.specs.Prelude.{◌≤◌, length};
+
+use few::Few;
 
 pub mod write;
 
@@ -10,12 +12,10 @@ pub struct Term {
     pub times: i64,
 }
 
-// The sum of times × unknown is at most `right`. The terms stand at the front of `places`, by rising unknown, none with times 0.
+// The sum of times × unknown is at most `right`. The terms stand by rising unknown, none with times 0.
 #[derive(Clone, Copy)]
 pub struct Row {
-    places: [Term; 34],
-    count: usize,
+    terms: Few<Term, 34>,
     pub right: i64,
-    ghost all: { length places ≡ 34 },
-    ghost few: { count ≤ 34 },
+    ghost few: { length terms.items ≤ 34 },
 }

@@ -10,8 +10,7 @@ pub trait Sheet {
     ghost meaning: { Self → Kind };
 
     fn places(&self) -> u32
-        ensures count { result ≡ (meaning self.now).places }
-        ensures limits { Limits (meaning self.now) };
+        ensures { result ≡ (meaning self.now).places };
 
     fn unknowns(&self) -> u32
         ensures { result ≡ (meaning self.now).unknowns };
@@ -20,7 +19,7 @@ pub trait Sheet {
     fn rows(&self, place: u32) -> u32
         ensures { result ≡ (meaning self.now).rows place };
 
-    // Writes the row into `out`; false where there is none, and `out` is then as it was.
+    // Writes the row into `out`; false where there is none, and `out` is then as it was. A plain flag, by a rule of the project.
     fn row(&self, place: u32, row: u32, out: &mut Row) -> bool
         ensures wrote { result ≡ true → Fits (meaning self.now).unknowns out.new }
         ensures kept { result ≡ false → out.new ≡ out.old };
@@ -33,4 +32,7 @@ pub trait Sheet {
     fn ceiling(&self, claim: u32) -> u32
         requires { claim ≤ 16777216 }
         ensures { result ≡ (meaning self.now).ceiling claim };
+
+    // What each kind of sheet has to keep.
+    ghost limits: { (s : Self) → Limits (meaning s) };
 }

@@ -1,25 +1,39 @@
 -- Laws of `cut_at` and `pieces`.
-use Rattle.std.proofs.Common.{◌≡◌, ℕ, zero, suc, ◌<◌, Bool, true, false, cond, eqb, List, [], ◌∷◌, length, get_or, take, drop, Some, None, Option, sym, refl, ap, ◌∙◌, subst, arith}
-use Rattle.std.proofs.lemmas.Bool.{eq-eqb, ne_eqb}
+use Rattle.std.proofs.Common.{◌≡◌, ◌==◌, ℕ, suc, ◌+◌, ◌-◌, ◌<◌, ◌≤◌, nat_lt, Bool, true, false, cond, not, eqb, List, [], ◌∷◌, length, take, drop, count_by, position, Some, None, Option, sym, refl, ap, ◌∙◌, subst, arith}
+use Rattle.std.specs.List.{position_or_len}
+use Rattle.std.specs.Option.{option_map}
+use Rattle.std.proofs.lemmas.Bool.Decides.{nat_tests}
+use Rattle.std.proofs.lemmas.List.Recursion.{is_count_by}
 use Rattle.text.specs.Pieces.{under, cut_at, grow, pieces}
 
-abbrev pub Without : ℕ → List ℕ → ℕ → Type 0
-Without s xs n = (k : ℕ) → k < n → get_or xs k 0 ≡ s → ⊥
+-- the parts around a place
+abbrev pub around_at : List ℕ → ℕ → List ℕ × List ℕ
+around_at xs i = (take i xs, drop (i + 1) xs)
 
-first_not : (s b : ℕ) (bs : List ℕ) (n : ℕ) → 0 < n → Without s (b ∷ bs) n → cut_at s (b ∷ bs) ≡ under b (cut_at s bs)
-first_not s b bs n h w = ap (λ t. cond t (Some ([], bs)) (under b (cut_at s bs))) (ne_eqb b s (w 0 h))
+one_more : (n : ℕ) → suc n ≡ 1 + n
+one_more n = omega arith
 
-rest_not : (s b : ℕ) (bs : List ℕ) (n : ℕ) → Without s (b ∷ bs) (suc n) → Without s bs n
-rest_not s b bs n w k h = w (suc k) (omega arith)
+-- a cut found further on, or none
+further : (b n : ℕ) (bs : List ℕ) (u : Bool) → under b (option_map (around_at bs) (cond u (Some n) None)) ≡ option_map (around_at (b ∷ bs)) (cond u (Some (suc n)) None)
+further b n bs true = let e : suc (n + 1) ≡ suc n + 1 = omega arith in ap (λ k. Some (b ∷ take n bs, drop k (b ∷ bs))) e
+further b n bs false = refl
 
-pub cut_found : (s : ℕ) (xs : List ℕ) (i : ℕ) → Without s xs i → i < length xs → get_or xs i 0 ≡ s → cut_at s xs ≡ Some (take i xs, drop (suc i) xs)
-cut_found s [] i w h e = absurd (omega arith)
-cut_found s (b ∷ bs) zero w h e = ap (λ t. cond t (Some ([], bs)) (under b (cut_at s bs))) (eq-eqb b s e)
-cut_found s (b ∷ bs) (suc i) w h e = first_not s b bs (suc i) (omega arith) w ∙ ap (under b) (cut_found s bs i (rest_not s b bs i w) (omega arith) e)
+less_more : (n m : ℕ) → nat_lt n m ≡ nat_lt (1 + n) (suc m)
+less_more n m = grind (arith, nat_tests)
 
-pub cut_none : (s : ℕ) (xs : List ℕ) → Without s xs (length xs) → cut_at s xs ≡ None
-cut_none s [] w = refl
-cut_none s (b ∷ bs) w = first_not s b bs (length (b ∷ bs)) (omega arith) w ∙ ap (under b) (cut_none s bs (rest_not s b bs (length bs) w))
+none_less : (m : ℕ) → true ≡ nat_lt 0 (suc m)
+none_less m = grind (arith, nat_tests)
+
+cut_step : (s b n : ℕ) (bs : List ℕ) (t : Bool) → cut_at s bs ≡ option_map (around_at bs) (cond (nat_lt n (length bs)) (Some n) None) → cond t (Some ([], bs)) (under b (cut_at s bs)) ≡ option_map (around_at (b ∷ bs)) (cond (nat_lt (cond (not t) (1 + n) 0) (length (b ∷ bs))) (Some (cond (not t) (1 + n) 0)) None)
+cut_step s b n bs true e = ap (λ u. option_map (around_at (b ∷ bs)) (cond u (Some 0) None)) (none_less (length bs))
+cut_step s b n bs false e =
+    ap (under b) e ∙ further b n bs (nat_lt n (length bs)) ∙ ap (λ k. option_map (around_at (b ∷ bs)) (cond (nat_lt n (length bs)) (Some k) None)) (one_more n)
+    ∙ ap (λ u. option_map (around_at (b ∷ bs)) (cond u (Some (1 + n)) None)) (less_more n (length bs))
+
+-- a cut is made at the first place of its byte
+pub cut_position : (s : ℕ) (xs : List ℕ) → cut_at s xs ≡ option_map (around_at xs) (position (λ b. b == s) xs)
+cut_position s [] = refl
+cut_position s (b ∷ bs) = cut_step s b (position_or_len (λ x. x == s) bs) bs (b == s) (cut_position s bs)
 
 -- the pieces, by the first cut
 abbrev pub parted : ℕ → List ℕ → Option (List ℕ × List ℕ) → List (List ℕ)
@@ -57,3 +71,19 @@ pieces_none s xs e = pieces_cut s xs ∙ ap (parted s xs) (sym e)
 
 pub shorter : (s : ℕ) (xs a b : List ℕ) → Some (a, b) ≡ cut_at s xs → length b < length xs
 shorter s xs a b e = subst (Shorter xs) (sym e) (cut_shorter s xs)
+
+some_piece : (s : ℕ) (xs : List ℕ) (o : Option (List ℕ × List ℕ)) → 1 ≤ length (parted s xs o)
+some_piece s xs None = omega arith
+some_piece s xs (Some p) = omega arith
+
+more_pieces : (s b : ℕ) (bs : List ℕ) (t : Bool) (ps : List (List ℕ)) → 1 ≤ length ps → length (cond t ([] ∷ ps) (grow b ps)) - 1 ≡ cond t (1 + (length ps - 1)) (length ps - 1)
+more_pieces s b bs true ps h = omega arith
+more_pieces s b bs false [] h = absurd (omega arith)
+more_pieces s b bs false (p ∷ ps) h = refl
+
+-- one piece more than there are bytes that part them
+pub pieces_count : (s : ℕ) (xs : List ℕ) → count_by (λ b. b == s) xs + 1 ≡ length (pieces s xs)
+pieces_count s xs =
+    let some : (ys : List ℕ) → 1 ≤ length (pieces s ys) = λ ys. subst (λ ps. 1 ≤ length ps) (sym (pieces_cut s ys)) (some_piece s ys (cut_at s ys)) in
+    let e = is_count_by (λ ys. length (pieces s ys) - 1) (λ b. b == s) refl (λ b bs. more_pieces s b bs (b == s) (pieces s bs) (some bs)) xs in
+    let h = some xs in omega arith

@@ -15,9 +15,11 @@ more_pieces : {A : Type 0} (s : ℕ) (xs : List ℕ) (x y : A) → last_or (piec
 more_pieces s xs x y = ap (λ l. last_or l x y) (pieces_cut s xs) ∙ parted_more s xs (cut_at s xs) x y
 
 module _ {S : Type 0} (f : S → ℕ → List ℕ → Result S Fault) where
-  -- a line is cut off, and o is what it makes of the state
-  pub lines_some : (s : S) (n : ℕ) (xs a b : List ℕ) (o : Result S Fault) → Some (a, b) ≡ cut_at 10 xs → f s n a ≡ o → read_lines f s n (pieces 10 xs) ≡ and_then o (λ t. read_lines f t (n + 1) (pieces 10 b))
-  lines_some s n xs a b o e h = ap (read_lines f s n) (pieces_some 10 xs a b e) ∙ more_pieces 10 b _ _ ∙ ap (λ w. and_then w (λ t. read_lines f t (n + 1) (pieces 10 b))) h
+  -- a line with the number m is cut off, o is what it makes of the state, and the line after it has the number k
+  pub lines_some : (s : S) (n m k : ℕ) (xs a b : List ℕ) (o : Result S Fault) → Some (a, b) ≡ cut_at 10 xs → m ≡ n → k ≡ n + 1 → f s m a ≡ o → read_lines f s n (pieces 10 xs) ≡ and_then o (λ t. read_lines f t k (pieces 10 b))
+  lines_some s n m k xs a b o e u v h =
+      ap (read_lines f s n) (pieces_some 10 xs a b e) ∙ more_pieces 10 b _ _ ∙ ap (λ w. and_then (f s w a) (λ t. read_lines f t (n + 1) (pieces 10 b))) (sym u)
+      ∙ ap (λ w. and_then w (λ t. read_lines f t (n + 1) (pieces 10 b))) h ∙ ap (λ w. and_then o (λ t. read_lines f t w (pieces 10 b))) (sym v)
 
   -- no line is left
   pub lines_none : (s : S) (n : ℕ) (xs : List ℕ) → None ≡ cut_at 10 xs → read_lines f s n (pieces 10 xs) ≡ at_end s (end_of n xs)

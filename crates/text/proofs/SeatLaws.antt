@@ -1,24 +1,13 @@
 -- Laws of the parts of a text and their places.
-use Rattle.std.proofs.Common.{◌≡◌, ℕ, zero, suc, ◌+◌, ◌-◌, ◌<◌, ◌≤◌, List, [], ◌∷◌, length, get_or, take, drop, Some, None, Option, sym, refl, ap, ◌∙◌, add_comm, zero-add, add-one, arith}
-use native.Mathlib.Nat.{sub-zero}
-use Rattle.std.proofs.lemmas.List.{take_rest, length-take-le}
+use Rattle.std.proofs.Common.{◌≡◌, ℕ, zero, suc, ◌+◌, ◌-◌, ◌<◌, ◌≤◌, List, [], ◌∷◌, length, take, drop, Some, None, Option, sym, refl, ap, ◌∙◌, arith}
+use Rattle.std.proofs.lemmas.List.{length-take-le}
 use Rattle.text.specs.Pieces.{cut_at, pieces, at}
 use Rattle.text.specs.Seats.{Seat, cut_seat, on, placed, parts}
-use Rattle.text.proofs.CutLaws.{Without, cut_found, parted, pieces_cut}
-
--- a part from the start, and one to the end, as the code takes them
-pub front_seat : (p q : ℕ) (xs : List ℕ) (i : ℕ) → ◌≡◌ {A = Seat} ((p, 0 + q), take (i - 0) xs) ((p, q), take i xs)
-front_seat p q xs i = simp (sub-zero, zero-add)
-
-pub back_seat : (p q : ℕ) (xs : List ℕ) (j : ℕ) → ◌≡◌ {A = Seat} ((p, j + q), take (length xs - j) (drop j xs)) ((p, q + j), drop j xs)
-back_seat p q xs j = simp take_rest (ap (λ n. ((p, n), drop j xs)) (add_comm j q))
+use Rattle.text.proofs.CutLaws.{around_at, parted, pieces_cut}
 
 -- the two parts of a cut at i
-pub seat_found : (a : ℕ × ℕ) (s : ℕ) (xs : List ℕ) (i : ℕ) → Without s xs i → i < length xs → get_or xs i 0 ≡ s → Some ((a, take i xs), (on a (i + 1), drop (i + 1) xs)) ≡ cut_seat a (cut_at s xs)
-seat_found a s xs i w h e =
-    let l = length-take-le i xs (omega arith) in
-    ap (λ m. Some ((a, take i xs), (on a (i + 1), drop m xs))) (add-one i) ∙ ap (λ n. Some ((a, take i xs), (on a (n + 1), drop (suc i) xs))) (sym l)
-    ∙ sym (ap (cut_seat a) (cut_found s xs i w h e))
+pub seat_found : (a : ℕ × ℕ) (xs : List ℕ) (i : ℕ) → i ≤ length xs → cut_seat a (Some (around_at xs i)) ≡ Some ((a, take i xs), (on a (i + 1), drop (i + 1) xs))
+seat_found a xs i h = ap (λ n. Some ((a, take i xs), (on a (n + 1), drop (i + 1) xs))) (length-take-le i xs h)
 
 pub pair_seats : (u v x y : Seat) → u ≡ x → v ≡ y → ◌≡◌ {A = Option (Seat × Seat)} (Some (u, v)) (Some (x, y))
 pair_seats u v x y e f = cc

@@ -1,34 +1,16 @@
--- The turns of the loops over the bytes of a word, and that no name is a number.
-use Rattle.std.proofs.Common.{◌≡◌, ℕ, ◌+◌, ◌-◌, ◌*◌, ◌^◌, ◌<◌, ◌≤◌, Bool, true, false, cond, not, ◌&&◌, eqb, leb, List, [], ◌∷◌, length, get_or, drop, Some, None, Ok, Err, Option, sym, refl, ap, ◌∙◌, pow-suc, add-one, arith, Bor}
+-- The turns of the loop over the digits of a word, and that no name is a number.
+use Rattle.std.proofs.Common.{◌≡◌, ℕ, ◌+◌, ◌-◌, ◌*◌, ◌^◌, ◌<◌, ◌≤◌, Bool, true, false, cond, ◌&&◌, leb, List, [], ◌∷◌, length, Some, None, Ok, Err, Option, refl, ap, ◌∙◌, arith, Bor}
 use native.Mathlib.Nat.{pow-le-pow_right}
 use Rattle.std.specs.Str.{bytes_eq}
 use Rattle.std.specs.Char.{is_ascii_lowercase, is_ascii_digit}
 use Rattle.text.specs.declared.fault.Fault.TheVariants.{WrongWord}
-use Rattle.std.proofs.lemmas.List.{at_drop_more}
 use Rattle.std.proofs.lemmas.Bool.Decides.{nat_tests}
 use Rattle.text.specs.Read.{is_named}
-use Rattle.text.specs.Words.{all_lower, digits_from, number_of, is_name, of_number, classify, name_in}
-
--- one turn: what all_lower says of what is left
-pub lower_more : (xs : List ℕ) (i : ℕ) (t : Bool) → i < length xs → t ≡ is_ascii_lowercase (get_or xs i 0) → all_lower (drop i xs) ≡ (t && all_lower (drop (i + 1) xs))
-lower_more xs i t h e = at_drop_more all_lower xs i 0 h ∙ ap (λ b. b && all_lower (drop (i + 1) xs)) (sym e)
-
-pub name_false : (xs : List ℕ) → all_lower xs ≡ false → false ≡ is_name xs
-name_false xs e = grind arith
-
-pub name_true : (xs : List ℕ) (b : Bool) → b ≡ eqb (length xs) 0 → all_lower xs ≡ true → not b ≡ is_name xs
-name_true xs b e h = grind (arith, nat_tests)
-
--- one turn: the number that what is left writes after v
-pub digits_more : (xs : List ℕ) (i v : ℕ) (t : Bool) → i < length xs → t ≡ is_ascii_digit (get_or xs i 0) → digits_from v (drop i xs) ≡ cond t (digits_from (v * 10 + (get_or xs i 0 - 48)) (drop (i + 1) xs)) None
-digits_more xs i v t h e = at_drop_more (digits_from v) xs i 0 h ∙ ap (λ b. cond b (digits_from (v * 10 + (get_or xs i 0 - 48)) (drop (i + 1) xs)) None) (sym e)
+use Rattle.text.specs.Words.{digits_from, number_of, is_name, of_number, classify, name_in}
 
 -- at most seven digits are read before the last
 pub seven : (v i n : ℕ) → v < 10 ^ i → i < n → n ≤ 8 → v < 10000000
 seven v i n h l m = omega (arith, pow-le-pow_right {n = 10} (omega arith) {i = i} {j = 7} (omega arith))
-
-pub pow_ten : (v i d : ℕ) → v < 10 ^ i → d < 10 → v * 10 + d < 10 ^ (i + 1)
-pow_ten v i d h l = rw add-one (rw pow-suc (omega arith))
 
 no_digit : (c : ℕ) → is_ascii_lowercase c ≡ true → is_ascii_digit c ≡ false
 no_digit c h = grind (arith, nat_tests)

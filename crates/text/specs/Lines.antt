@@ -1,8 +1,8 @@
 -- A text read line by line into a state.
-use Rattle.std.specs.Prelude.{◌≡◌, ℕ, ◌+◌, cond, not, List, [], ◌∷◌, length, Some, None, Ok, Err, Option, Result, ◌==◌}
+use Rattle.std.specs.Prelude.{◌≡◌, ℕ, ◌+◌, cond, not, List, [], ◌∷◌, length, Some, None, Ok, Err, Option, Result, ◌==◌, nat_le}
 use Rattle.std.specs.Borrow.{Bor}
 use Rattle.text.specs.declared.fault.Fault.{Fault}
-use Rattle.text.specs.declared.fault.Fault.TheVariants.{EndsEarly, LineEnd}
+use Rattle.text.specs.declared.fault.Fault.TheVariants.{EndsEarly, LineEnd, TooLong}
 use Rattle.text.specs.Continue.{and_then, unless}
 use Rattle.text.specs.Pieces.{cut_at}
 
@@ -48,3 +48,7 @@ whole_line n None = Err (LineEnd n)
 -- the first line, which has the number n, and what comes after it
 abbrev pub first_line : ℕ → List ℕ → Result (List ℕ × List ℕ) Fault
 first_line n l = unless (not (length l == 0)) (EndsEarly n) (whole_line n (cut_at 10 l))
+
+-- the number of the first line of a text and the text, which has at most 65,536 bytes
+abbrev pub lines_of : List ℕ → Result (ℕ × List ℕ) Fault
+lines_of t = unless (nat_le (length t) 65536) TooLong (Ok (1, t))

@@ -1,11 +1,11 @@
--- What stands at a place of a line: a number, or a given name.
-use Rattle.std.specs.Prelude.{ℕ, ◌-◌, Bool, false, cond, ◌&&◌, List, Some, None, Ok, Err, Option, Result}
+-- What stands at a place of a line: a number, or a given name; and a line of given names.
+use Rattle.std.specs.Prelude.{ℕ, ◌+◌, ◌-◌, Bool, false, cond, ◌&&◌, List, [], ◌∷◌, length, ◌==◌, Some, None, Ok, Err, Option, Result}
 use Rattle.std.specs.Option.{ok_or}
 use Rattle.std.specs.Str.{bytes_eq}
 use Rattle.text.specs.declared.fault.Fault.{Fault}
 use Rattle.text.specs.declared.fault.Fault.TheVariants.{WordCount, WrongWord}
-use Rattle.text.specs.Continue.{and_then}
-use Rattle.text.specs.Pieces.{words, at}
+use Rattle.text.specs.Continue.{and_then, unless}
+use Rattle.text.specs.Pieces.{words, word_count, at}
 use Rattle.text.specs.Words.{number_of, is_name}
 
 -- the bytes of the word at a place, from 1, of the line l
@@ -23,6 +23,15 @@ is_named line place name bs = cond (is_name bs && bytes_eq bs name) (Ok tt) (Err
 -- the word at a place of the line l is the given name
 abbrev pub name_at : ℕ → ℕ → List ℕ → List ℕ → Result (Unit {0}) Fault
 name_at line place name l = and_then (bytes_at line place l) (is_named line place name)
+
+-- the words from a place on are the given names
+abbrev pub names_in : ℕ → ℕ → List (List ℕ) → List ℕ → Result (Unit {0}) Fault
+names_in line place [] l = Ok tt
+names_in line place (n ∷ ns) l = and_then (name_at line place n l) (λ _. names_in line (place + 1) ns l)
+
+-- the line l has the given names and no other word
+abbrev pub names_line : ℕ → List (List ℕ) → List ℕ → Result (Unit {0}) Fault
+names_line line ns l = unless (word_count l == length ns) (WordCount line) (names_in line 1 ns l)
 
 abbrev pub is_word : Option (List ℕ) → List ℕ → Bool
 is_word None name = false

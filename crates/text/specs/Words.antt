@@ -1,6 +1,7 @@
 -- What a word of a text is, by its bytes.
 use Rattle.std.specs.Prelude.{ℕ, ◌+◌, ◌-◌, ◌*◌, Bool, true, false, cond, ◌&&◌, List, [], ◌∷◌, length, Some, None, Ok, Err, Option, Result, nat_le}
 use Rattle.std.specs.Borrow.{Bor}
+use Rattle.std.specs.List.{list_all}
 use Rattle.std.specs.Char.{is_ascii_digit, is_ascii_lowercase}
 use Rattle.std.specs.Str.{bytes_eq}
 use Rattle.text.specs.declared.fault.Fault.{Fault}
@@ -17,13 +18,9 @@ digits_from n (c ∷ cs) = cond (is_ascii_digit c) (digits_from (n * 10 + (c - 4
 abbrev pub number_of : List ℕ → Option ℕ
 number_of bs = cond (nat_le 1 (length bs) && nat_le (length bs) 8) (digits_from 0 bs) None
 
-abbrev pub all_lower : List ℕ → Bool
-all_lower [] = true
-all_lower (c ∷ cs) = is_ascii_lowercase c && all_lower cs
-
 -- a name is one or more letters a to z
 abbrev pub is_name : List ℕ → Bool
-is_name bs = nat_le 1 (length bs) && all_lower bs
+is_name bs = nat_le 1 (length bs) && list_all is_ascii_lowercase bs
 
 abbrev pub of_number : Option ℕ → Bool → Bor (List ℕ) → ℕ → ℕ → Word
 of_number (Some v) b t line place = Number v t line place
@@ -33,6 +30,12 @@ of_number None false t line place = Other t line place
 -- the word that the bytes t are, at a line and a place in it
 abbrev pub classify : Bor (List ℕ) → ℕ → ℕ → Word
 classify t line place = of_number (number_of t.now) (is_name t.now) t line place
+
+-- the fault of a word that is not what should stand there
+abbrev pub wrong_at : Word → Fault
+wrong_at (Number value text line place) = WrongWord line place
+wrong_at (Name text line place) = WrongWord line place
+wrong_at (Other text line place) = WrongWord line place
 
 -- the number that a word is
 abbrev pub number_in : Word → Result ℕ Fault

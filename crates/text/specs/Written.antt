@@ -1,16 +1,11 @@
 -- What a page holds, what writing it into lent memory gives, and the text of a refusal.
-use Rattle.std.specs.Prelude.{ℕ, cond, List, [], ◌∷◌, ◌++◌, length, take, drop, ℤ, pos, negsuc, Ok, Err, codes, decimal, Result, nat_le}
+use Rattle.std.specs.Prelude.{ℕ, cond, List, [], ◌∷◌, ◌++◌, length, drop, Ok, Err, codes, decimal, Result, nat_le}
 use Rattle.text.specs.declared.fault.Refusal.{Refusal}
 use Rattle.text.specs.declared.page.Page.{Page}
 use Rattle.text.specs.declared.page.Short.{Short}
 
 abbrev pub on_page : Page → List ℕ
-on_page p = take p.used p.bytes
-
--- what stands before the digits of a number
-abbrev pub sign_of : ℤ → List ℕ
-sign_of (pos n) = []
-sign_of (negsuc n) = codes "-"
+on_page p = p.text.items
 
 -- the memory m after w was written from its start, untouched where w does not fit
 abbrev pub filled : List ℕ → List ℕ → List ℕ

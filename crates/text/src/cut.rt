@@ -1,5 +1,5 @@
 // Parts of a text: the pieces that a byte parts. Each contract says what a part holds and where in memory it lies.
-ghost use Rattle.std.specs.Prelude.{◌≡◌, ◌+◌, ◌<◌, ◌≤◌, length, take, drop};
+ghost use Rattle.std.specs.Prelude.{◌≡◌, ◌+◌, ◌<◌, ◌≤◌, ◌==◌, length, take, drop, position};
 ghost use Rattle.text.specs.Pieces.{cut_at, held, pieces, holds, at, words, word_count};
 ghost use Rattle.text.specs.Seats.{seat, seated, seated_two, on, cut_seat, parts, word_seats};
 
@@ -12,37 +12,39 @@ fn around<'a>(text: &'a [u8], i: usize) -> (&'a [u8], &'a [u8])
     (&text[0..i], &text[i + 1..])
 }
 
+// Where the first byte `stop` stands.
+fn find(text: &[u8], stop: u8) -> Option<usize>
+    ensures { result ≡ position (λ b. b == stop) text.now }
+{
+    text.iter().position(|b| *b == stop)
+}
+
 // What stands before the first byte `stop` and what stands after it.
 pub fn cut<'a>(text: &'a [u8], stop: u8) -> Option<(&'a [u8], &'a [u8])>
     ensures bytes { held result ≡ cut_at stop text.now }
     ensures seats { seated_two result ≡ cut_seat text.entry.ref_ptr (cut_at stop text.now) }
 {
-    for (i, b) in text.iter().enumerate() {
-        if *b == stop {
-            return Some(around(text, i));
-        }
-    }
-    None
+    let i = find(text, stop)?;
+    Some(around(text, i))
 }
 
-// What is left of a text.
+// What is left of a text. A loop's invariant sees where it lies; of a plain reference it would see only what that holds.
 #[derive(Clone, Copy)]
 struct Rest<'a> {
     text: &'a [u8],
 }
 
-// The piece with the number k, from 0, of those that the bytes `stop` part.
+// The piece with the number k, from 0, of those that the bytes `stop` part. The library's `split` does not say where a piece lies.
 pub fn piece<'a>(text: &'a [u8], stop: u8, k: usize) -> Option<&'a [u8]>
     ensures bytes { holds result ≡ at (pieces stop text.now) k }
     ensures seats { seated result ≡ at (parts stop (seat text.entry)) k }
 {
     let mut rest = Rest { text };
     for _i in 0..k {
-        match cut(rest.text, stop) {
-            Some((_, after)) => rest = Rest { text: after },
-            None => return None,
-        }
+        let (_, after) = cut(rest.text, stop)?;
+        rest = Rest { text: after };
     }
+    // As `map_or` this proved only with more to answer.
     match cut(rest.text, stop) {
         Some((front, _)) => Some(front),
         None => Some(rest.text),
@@ -50,17 +52,12 @@ pub fn piece<'a>(text: &'a [u8], stop: u8, k: usize) -> Option<&'a [u8]>
 }
 
 // How many bytes `stop` there are: one less than pieces.
+#[tactic(auto, using(crate::proofs::CutLaws::pieces_count))]
 pub fn count(text: &[u8], stop: u8) -> usize
     ensures exact { result + 1 ≡ length (pieces stop text.now) }
     ensures bound { result ≤ length text.now }
 {
-    let mut n = 0;
-    let mut rest = text;
-    while let Some((_, after)) = cut(rest, stop) {
-        n += 1;
-        rest = after;
-    }
-    n
+    text.iter().filter(|b| **b == stop).count()
 }
 
 // How many words a line has: every single byte 32 parts two, and the empty line has none.

@@ -38,11 +38,12 @@ pub struct Refusal {
     pub second: u32,
 }
 
-impl Fault {
-    pub fn refusal(self) -> Refusal
-        ensures { result ≡ refusal_of self }
-    {
-        let (number, first, second) = match self {
+// The numbers stay numbers, since they are what the texts say.
+impl From<Fault> for Refusal {
+    ghost from_gives = { λ f r. r ≡ refusal_of f };
+
+    fn from(fault: Fault) -> Refusal {
+        let (number, first, second) = match fault {
             Fault::WordCount { line } | Fault::LineEnd { line } | Fault::EndsEarly { line } => (
                 1, line, 0,
             ),

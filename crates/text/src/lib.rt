@@ -4,9 +4,9 @@
 
 pub mod cut;
 pub mod fault;
+pub mod line;
 pub mod lines;
 pub mod page;
-pub mod read;
 pub mod show;
 pub mod word;
 pub mod write;

@@ -1,5 +1,7 @@
 // Where text is gathered before it is copied out.
-ghost use Rattle.std.specs.Prelude.{◌≤◌};
+ghost use Rattle.std.specs.Prelude.{◌≤◌, length};
+
+use few::Few;
 
 // Lent memory is too short.
 #[derive(Clone, Copy, Debug, PartialEq, Eq)]
@@ -8,7 +10,6 @@ pub struct Short;
 // A text of at most 2,048 bytes. It is gathered here first, because lent memory stays untouched when it is too short for all of it.
 #[derive(Clone, Copy)]
 pub struct Page {
-    pub(crate) bytes: [u8; 2048],
-    pub(crate) used: usize,
-    ghost room: { used ≤ 2048 },
+    pub(crate) text: Few<u8, 2048>,
+    ghost room: { length text.items ≤ 2048 },
 }

@@ -1,12 +1,13 @@
 // The words of a line.
 ghost use Rattle.std.specs.Prelude.{◌≡◌, ◌≤◌, length};
-ghost use Rattle.text.specs.Words.{digits_from, number_of, is_name, classify, number_in, name_in};
+ghost use Rattle.std.specs.Char.{is_ascii_lowercase};
+ghost use Rattle.std.specs.List.{list_all};
+ghost use Rattle.text.specs.Words.{digits_from, number_of, is_name, classify, wrong_at, number_in, name_in};
 
 use crate::fault::Fault;
-use crate::read::same;
 
 // A word is a part of its text: a number, a name, or neither. It has its line and its place in that, both from 1, so that a fault can
-// name them.
+// name them. By a rule of the project it is an enum whose cases borrow the text.
 #[derive(Clone, Copy)]
 pub enum Word<'a> {
     Number {
@@ -27,7 +28,7 @@ pub enum Word<'a> {
     },
 }
 
-// The number that digits write.
+// The number that digits write. A loop, since nothing bounds what `try_fold` would hand its closure.
 fn value_of(text: &[u8]) -> Option<u32>
     requires { length text.now ≤ 8 }
     ensures { result ≡ digits_from 0 text.now }
@@ -46,22 +47,24 @@ fn value_of(text: &[u8]) -> Option<u32>
 fn number_of(text: &[u8]) -> Option<u32>
     ensures { result ≡ number_of text.now }
 {
-    if 1 <= text.len() && text.len() <= 8 {
+    if (1..=8).contains(&text.len()) {
         value_of(text)
     } else {
         None
     }
 }
 
+fn all_lowercase(text: &[u8]) -> bool
+    ensures { result ≡ list_all is_ascii_lowercase text.now }
+{
+    text.iter().all(|b| b.is_ascii_lowercase())
+}
+
+// Whether these bytes are a name: one or more letters a to z.
 fn is_name(text: &[u8]) -> bool
     ensures { result ≡ is_name text.now }
 {
-    for b in text {
-        if !b.is_ascii_lowercase() {
-            return false;
-        }
-    }
-    !text.is_empty()
+    !text.is_empty() && all_lowercase(text)
 }
 
 // The word that these bytes are.
@@ -84,15 +87,24 @@ pub fn word_of<'a>(text: &'a [u8], line: u32, place: u32) -> Word<'a>
 }
 
 impl<'a> Word<'a> {
+    // The fault of a word that is not what should stand there.
+    fn wrong(self) -> Fault
+        ensures { result ≡ wrong_at self.entry }
+    {
+        match self {
+            Word::Number { line, place, .. }
+            | Word::Name { line, place, .. }
+            | Word::Other { line, place, .. } => Fault::WrongWord { line, word: place },
+        }
+    }
+
     // The number that the word is.
     pub fn number(self) -> Result<u32, Fault>
         ensures { result ≡ number_in self.entry }
     {
         match self {
             Word::Number { value, .. } => Ok(value),
-            Word::Name { line, place, .. } | Word::Other { line, place, .. } => Err(
-                Fault::WrongWord { line, word: place },
-            ),
+            _ => Err(self.wrong()),
         }
     }
 
@@ -101,16 +113,8 @@ impl<'a> Word<'a> {
         ensures { result ≡ name_in self.entry name.now }
     {
         match self {
-            Word::Name { text, line, place } => {
-                if same(text, name) {
-                    Ok(())
-                } else {
-                    Err(Fault::WrongWord { line, word: place })
-                }
-            }
-            Word::Number { line, place, .. } | Word::Other { line, place, .. } => Err(
-                Fault::WrongWord { line, word: place },
-            ),
+            Word::Name { text, .. } if text == name => Ok(()),
+            _ => Err(self.wrong()),
         }
     }
 }

@@ -32,10 +32,7 @@ impl Book {
         }
         let draft = read_draft(text)?;
         let chain = Chain::build(heap, &draft)?;
-        let kept = match &self.chain {
-            Some(old) => chain.same(old),
-            None => false,
-        };
+        let kept = self.chain.as_ref().is_some_and(|old| chain.same(old));
         if !kept {
             self.quotes = Quotes::none();
         }

@@ -11,13 +11,9 @@ impl Book {
     pub fn judge(&self, paper: &[u8], sums: &mut [i64]) -> Result<Verdict, BookFault>
         ensures { JudgeOutcome self.now.chain self.now.edits paper.now result sums.old sums.new }
     {
-        let Some(chain) = &self.chain else {
-            return Err(BookFault::NoChain);
-        };
-        let aim = judge_paper(chain, paper, sums)?;
+        let aim = judge_paper(self.chain()?, paper, sums)?;
         Ok(Verdict {
-            goal: aim.goal,
-            at: aim.at,
+            target: aim.target,
             claim: aim.stated.claim,
             edits: self.edits,
         })

@@ -5,7 +5,7 @@ ghost use Rattle.book.specs.Books.{enter_answer, EnterLeaves, quote_answer};
 use crate::book::Book;
 use crate::fault::BookFault;
 use crate::goal::Goal;
-use crate::paper::has_place;
+use crate::target::Target;
 use crate::verdict::Verdict;
 
 impl Book {
@@ -14,28 +14,19 @@ impl Book {
         ensures answer { result ≡ enter_answer self.old verdict }
         ensures leaves { EnterLeaves self.old verdict result self.new }
     {
-        if self.chain.is_none() {
-            return Err(BookFault::NoChain);
-        }
+        self.chain()?;
         if verdict.edits != self.edits {
             return Err(BookFault::EditsMoved);
         }
-        Ok(self.quotes.lower(verdict.goal, verdict.at, verdict.claim))
+        Ok(self.quotes.lower(verdict.target, verdict.claim))
     }
 
-    // The claim that stands for a goal, if one does.
+    // The claim that stands for a goal, if one does. Goal and `at` are no target yet: together they may name nothing.
     pub fn quote(&self, goal: Goal, at: u32) -> Result<Option<u32>, BookFault>
         ensures { result ≡ quote_answer self.now goal at }
     {
-        match &self.chain {
-            Some(chain) => {
-                if has_place(chain, goal, at) {
-                    Ok(self.quotes.get(goal, at))
-                } else {
-                    Err(BookFault::NamesNothing)
-                }
-            }
-            None => Err(BookFault::NoChain),
-        }
+        let chain = self.chain()?;
+        let target = Target::find(chain, goal, at).ok_or(BookFault::NamesNothing)?;
+        Ok(self.quotes.get(target))
     }
 }

@@ -1,19 +1,16 @@
 // Reading and lowering quotes.
-ghost use Rattle.std.specs.Prelude.{◌≡◌, true};
-ghost use Rattle.book.specs.Places.{is_place};
+ghost use Rattle.std.specs.Prelude.{◌≡◌};
 ghost use Rattle.book.specs.Quotes.{standing, no_quotes, quote_at, lowered, smaller};
 
 use crate::goal::Goal;
 use crate::quotes::Quotes;
+use crate::target::Target;
 
 // The smaller of a claim and the one that stands, if one does.
 fn smaller_claim(standing: Option<u32>, claim: u32) -> u32
     ensures { result ≡ smaller standing claim }
 {
-    match standing {
-        Some(quote) => { if quote < claim { quote } else { claim } }
-        None => claim,
-    }
+    standing.map_or(claim, |quote| quote.min(claim))
 }
 
 impl Quotes {
@@ -26,27 +23,25 @@ impl Quotes {
         }
     }
 
-    // The claim that stands for a goal.
-    pub fn get(&self, goal: Goal, at: u32) -> Option<u32>
-        requires { is_place goal at ≡ true }
-        ensures { result ≡ quote_at (standing self.now) goal at }
+    // The claim that stands for a target. Reading it and writing it, below, lend the place differently, so each has its match.
+    pub fn get(&self, target: Target) -> Option<u32>
+        ensures { result ≡ quote_at (standing self.now) target.goal target.at }
     {
-        match goal {
+        match target.goal {
             Goal::Delay => self.delay,
-            Goal::Backlog => self.backlog[(at - 1) as usize],
+            Goal::Backlog => self.backlog[(target.at - 1) as usize],
         }
     }
 
     // Lets a claim stand, unless a smaller one does, and answers the one that stands then.
-    pub fn lower(&mut self, goal: Goal, at: u32, claim: u32) -> u32
-        requires { is_place goal at ≡ true }
-        ensures answer { result ≡ smaller (quote_at (standing self.old) goal at) claim }
-        ensures after { standing self.new ≡ lowered (standing self.old) goal at result }
+    pub fn lower(&mut self, target: Target, claim: u32) -> u32
+        ensures answer { result ≡ smaller (quote_at (standing self.old) target.goal target.at) claim }
+        ensures after { standing self.new ≡ lowered (standing self.old) target.goal target.at result }
     {
-        let quote = smaller_claim(self.get(goal, at), claim);
-        match goal {
+        let quote = smaller_claim(self.get(target), claim);
+        match target.goal {
             Goal::Delay => self.delay = Some(quote),
-            Goal::Backlog => self.backlog[(at - 1) as usize] = Some(quote),
+            Goal::Backlog => self.backlog[(target.at - 1) as usize] = Some(quote),
         }
         quote
     }

@@ -6,15 +6,15 @@ use crate::verdict::Verdict;
 
 impl Verdict {
     pub fn goal(&self) -> Goal
-        ensures { result ≡ self.now.goal }
+        ensures { result ≡ self.now.target.goal }
     {
-        self.goal
+        self.target.goal
     }
 
     pub fn at(&self) -> u32
-        ensures { result ≡ self.now.at }
+        ensures { result ≡ self.now.target.at }
     {
-        self.at
+        self.target.at
     }
 
     pub fn claim(&self) -> u32

@@ -1,5 +1,5 @@
 // What the backlog sheet answers.
-ghost use Rattle.std.specs.Prelude.{◌≡◌, ◌≤◌, length, Some, None};
+ghost use Rattle.std.specs.Prelude.{◌≡◌, ◌≤◌, length, MatchOption};
 ghost use Rattle.chain.specs.Views.{relays_of};
 ghost use Rattle.sheet.specs.Kinds.{backlog_kind};
 
@@ -11,22 +11,41 @@ use crate::sheet::Sheet;
 use chain::chain::Chain;
 
 impl<'a> BacklogSheet<'a> {
+    // The sheet over a part, of the relay that it leads to.
+    fn over(part: Part<'a>) -> BacklogSheet<'a>
+        ensures { result.part ≡ part.entry }
+    {
+        BacklogSheet {
+            part,
+            rows: part.rows(),
+        }
+    }
+
+    // The sheet of a relay of the chain.
+    pub fn at(chain: &'a Chain, relay: u32) -> BacklogSheet<'a>
+        requires low { 1 ≤ relay }
+        requires high { relay ≤ length (relays_of chain.now) }
+        ensures chain { result.part.chain.now ≡ chain.now }
+        ensures relay { result.part.last ≡ relay }
+    {
+        BacklogSheet::over(Part::to(chain, relay))
+    }
+
     // The sheet of a relay, if there is such a relay.
     pub fn new(chain: &'a Chain, relay: u32) -> Option<BacklogSheet<'a>>
-        ensures { elim result [ Some sheet ↦ (sheet.part.chain.now ≡ chain.now) × (sheet.part.last ≡ relay) | None ↦ ((1 ≤ relay) → (relay ≤ length (relays_of chain.now)) → ⊥) ] }
+        ensures { MatchOption result ((1 ≤ relay) → (relay ≤ length (relays_of chain.now)) → ⊥) (λ sheet. (sheet.part.chain.now ≡ chain.now) × (sheet.part.last ≡ relay)) }
     {
-        match Part::until(chain, relay) {
-            Some(part) => Some(BacklogSheet {
-                part,
-                rows: part.rows(),
-            }),
-            None => None,
-        }
+        let part = Part::until(chain, relay)?;
+        Some(BacklogSheet::over(part))
     }
 }
 
 impl Sheet for BacklogSheet<'_> {
+    ghost use Rattle.sheet.specs.SheetLimits.{backlog_limits};
+
     ghost meaning = { λ s. backlog_kind s.part.chain.now s.part.last };
+
+    ghost limits = { backlog_limits };
 
     fn places(&self) -> u32 {
         1
@@ -44,7 +63,7 @@ impl Sheet for BacklogSheet<'_> {
         if place != 1 || row < 1 {
             return false;
         }
-        self.part.row(row - 1, out)
+        self.part.row(row - 1, out).is_some()
     }
 
     fn goal(&self, unknown: u32) -> i64 {

@@ -30,7 +30,11 @@ impl<'a> DelaySheet<'a> {
 }
 
 impl Sheet for DelaySheet<'_> {
+    ghost use Rattle.sheet.specs.SheetLimits.{delay_limits};
+
     ghost meaning = { λ s. delay_kind s.part.chain.now };
+
+    ghost limits = { delay_limits };
 
     fn places(&self) -> u32 {
         self.stop.hops()
@@ -41,20 +45,21 @@ impl Sheet for DelaySheet<'_> {
     }
 
     fn rows(&self, place: u32) -> u32 {
-        if place < 1 || self.stop.hops() < place {
-            return 0;
+        if (1..=self.stop.hops()).contains(&place) {
+            self.rows
+        } else {
+            0
         }
-        self.rows
     }
 
     fn row(&self, place: u32, row: u32, out: &mut Row) -> bool {
-        if place < 1 || self.stop.hops() < place || row < 1 {
+        if !(1..=self.stop.hops()).contains(&place) || row < 1 {
             return false;
         }
         if row <= self.base {
-            return self.part.row(row - 1, out);
+            return self.part.row(row - 1, out).is_some();
         }
-        self.place_row(place, row - self.base - 1, out)
+        self.place_row(place, row - self.base - 1, out).is_some()
     }
 
     fn goal(&self, unknown: u32) -> i64 {

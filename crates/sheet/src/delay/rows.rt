@@ -1,7 +1,8 @@
 // The rows that the delay sheet adds at each place.
-ghost use Rattle.std.specs.Prelude.{◌≡◌, ◌+◌, ◌*◌, ◌≤◌, true, false};
+ghost use Rattle.std.specs.Prelude.{◌≡◌, ◌+◌, ◌*◌, ◌≤◌, unsigned_abs};
 ghost use Rattle.chain.specs.Shape.{hops};
-ghost use Rattle.sheet.specs.Rows.{Fits};
+ghost use Rattle.sheet.specs.Ends.{delay_end};
+ghost use Rattle.sheet.specs.Rows.{Fits, Written};
 
 use crate::delay::DelaySheet;
 use crate::row::Row;
@@ -33,72 +34,55 @@ impl DelaySheet<'_> {
 
     // The last byte that entered by the tick has not left by the last date.
     fn write_late(&self, out: &mut Row)
-        ensures { Fits (self.now.unknowns + 2) out.new }
+        ensures { Fits (delay_end self.now) out.new }
     {
         out.start(-1);
         out.plus(self.stop.out_at(self.stop.hops()), 1);
         out.minus(self.volume(), 1);
     }
 
-    // No more enters between the date of a node up to the place and the tick than the line allows.
-    fn write_before(&self, position: u32, line: &ArrivalLine, out: &mut Row)
-        requires { position ≤ hops self.now.stop.stretch }
-        ensures { Fits (self.now.unknowns + 2) out.new }
+    // No more enters between the date of a node and the tick than the line allows; `sign` is 1 where the node comes first, else -1.
+    fn write_around(&self, position: u32, sign: i64, line: &ArrivalLine, out: &mut Row)
+        requires within { position ≤ hops self.now.stop.stretch }
+        requires unit { unsigned_abs sign ≡ 1 }
+        ensures { Fits (delay_end self.now) out.new }
     {
+        let rate = sign * i64::from(line.rate);
         out.start(i64::from(line.burst));
-        out.plus(self.stop.date_at(position), line.rate);
-        out.minus(self.stop.in_at(position), 1);
-        out.minus(self.tick(), line.rate);
-        out.plus(self.volume(), 1);
+        out.put(self.stop.date_at(position), rate);
+        out.put(self.stop.in_at(position), -sign);
+        out.put(self.tick(), -rate);
+        out.put(self.volume(), sign);
     }
 
-    // No more enters between the tick and the date of a node after the place than the line allows.
-    fn write_after(&self, position: u32, line: &ArrivalLine, out: &mut Row)
-        requires { position ≤ hops self.now.stop.stretch }
-        ensures { Fits (self.now.unknowns + 2) out.new }
+    // The row at an index, from 0, among those of the curve: by the node, then by the line. Nodes up to the place come before the tick.
+    fn curve_row(&self, place: u32, index: u32, out: &mut Row) -> Option<()>
+        ensures { Written (delay_end self.now) out.old out.new result }
     {
-        out.start(i64::from(line.burst));
-        out.minus(self.stop.date_at(position), line.rate);
-        out.plus(self.stop.in_at(position), 1);
-        out.plus(self.tick(), line.rate);
-        out.minus(self.volume(), 1);
-    }
-
-    // The row at an index, from 0, among those of the curve: by the node, then by the line.
-    fn curve_row(&self, place: u32, index: u32, out: &mut Row) -> bool
-        ensures wrote { result ≡ true → Fits (self.now.unknowns + 2) out.new }
-        ensures kept { result ≡ false → out.new ≡ out.old }
-    {
-        let lines = self.stop.curve.lines();
-        let count = lines.len() as u32;
-        let position = index / count;
+        let (position, line) = self.stop.by_line(index);
         if self.stop.hops() < position {
-            return false;
+            return None;
         }
-        let line = &lines[(index % count) as usize];
-        if position < place {
-            self.write_before(position, line, out);
-        } else {
-            self.write_after(position, line, out);
-        }
-        true
+        let sign = if position < place { 1 } else { -1 };
+        self.write_around(position, sign, line, out);
+        Some(())
     }
 
     // The row at an index, from 0, after those of the chain: the tick and what has entered by then lie between the dates around the place.
-    pub fn place_row(&self, place: u32, index: u32, out: &mut Row) -> bool
+    pub fn place_row(&self, place: u32, index: u32, out: &mut Row) -> Option<()>
         requires low { 1 ≤ place }
         requires high { place ≤ hops self.now.stop.stretch }
-        ensures wrote { result ≡ true → Fits (self.now.unknowns + 2) out.new }
-        ensures kept { result ≡ false → out.new ≡ out.old }
+        ensures { Written (delay_end self.now) out.old out.new result }
     {
+        // Each number has a row of its own kind, so a match and no table.
         match index {
             0 => out.rises(self.stop.date_at(place - 1), self.tick()),
             1 => out.falls(self.stop.date_at(place), self.tick()),
             2 => out.rises(self.stop.in_at(place - 1), self.volume()),
             3 => out.falls(self.stop.in_at(place), self.volume()),
             4 => self.write_late(out),
-            _ => return self.curve_row(place, index - 5, out),
+            _ => self.curve_row(place, index - 5, out)?,
         }
-        true
+        Some(())
     }
 }

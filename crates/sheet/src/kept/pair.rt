@@ -1,8 +1,8 @@
 // The pairs of nodes on a stretch, and the rows that a stream's curve gives for them.
-ghost use Rattle.std.specs.Prelude.{◌≡◌, ℕ, ◌+◌, ◌<◌, ◌≤◌, true, false, Some, None};
+ghost use Rattle.std.specs.Prelude.{◌<◌, ◌≤◌, IfSome};
 ghost use Rattle.chain.specs.Shape.{hops};
-ghost use Rattle.sheet.specs.Parts.{values};
-ghost use Rattle.sheet.specs.Rows.{Fits};
+ghost use Rattle.sheet.specs.Ends.{kept_end};
+ghost use Rattle.sheet.specs.Rows.{Fits, Written};
 
 use crate::kept::Kept;
 use crate::row::Row;
@@ -18,19 +18,11 @@ pub struct Pair {
 // The pair at an index, from 0, on a stretch of so many relays: by the first position, then by the second.
 fn find_pair(relays: u32, index: u32) -> Option<Pair>
     requires { relays ≤ 8 }
-    ensures { elim result [ Some p ↦ (p.first < p.second) × (p.second ≤ relays) | None ↦ Unit {0} ] }
+    ensures { IfSome result (λ pair. (pair.first < pair.second) × (pair.second ≤ relays)) }
 {
-    let mut left = index;
-    for first in 0..relays {
-        if left < relays - first {
-            return Some(Pair {
-                first,
-                second: first + 1 + left,
-            });
-        }
-        left -= relays - first;
-    }
-    None
+    (0..relays)
+        .flat_map(|first| (first + 1..=relays).map(move |second| Pair { first, second }))
+        .nth(index as usize)
 }
 
 impl Kept<'_> {
@@ -38,7 +30,7 @@ impl Kept<'_> {
     fn write_pair(&self, pair: Pair, line: &ArrivalLine, out: &mut Row)
         requires rises { pair.first < pair.second }
         requires within { pair.second ≤ hops self.now.stretch }
-        ensures { (n : ℕ) → self.now.offset + values self.now.stretch ≤ n → Fits n out.new }
+        ensures { Fits (kept_end self.now) out.new }
     {
         out.start(i64::from(line.burst));
         out.plus(self.date_at(pair.first), line.rate);
@@ -48,18 +40,12 @@ impl Kept<'_> {
     }
 
     // The row at an index, from 0, among those of pairs: by the pair, then by the line.
-    pub fn pair_row(&self, index: u32, out: &mut Row) -> bool
-        ensures wrote { result ≡ true → (n : ℕ) → self.now.offset + values self.now.stretch ≤ n → Fits n out.new }
-        ensures kept { result ≡ false → out.new ≡ out.old }
+    pub fn pair_row(&self, index: u32, out: &mut Row) -> Option<()>
+        ensures { Written (kept_end self.now) out.old out.new result }
     {
-        let lines = self.curve.lines();
-        let count = lines.len() as u32;
-        match find_pair(self.hops(), index / count) {
-            Some(pair) => {
-                self.write_pair(pair, &lines[(index % count) as usize], out);
-                true
-            }
-            None => false,
-        }
+        let (group, line) = self.by_line(index);
+        let pair = find_pair(self.hops(), group)?;
+        self.write_pair(pair, line, out);
+        Some(())
     }
 }

@@ -1,7 +1,7 @@
 // The numbers of a stream's unknowns: its in values along the stretch, then its out values.
 ghost use Rattle.std.specs.Prelude.{◌≡◌, ◌+◌, ◌≤◌};
 ghost use Rattle.chain.specs.Shape.{hops, node};
-ghost use Rattle.sheet.specs.Parts.{values};
+ghost use Rattle.sheet.specs.Ends.{kept_end};
 
 use crate::kept::Kept;
 
@@ -29,7 +29,7 @@ impl Kept<'_> {
     pub fn in_at(&self, position: u32) -> u32
         requires { position ≤ hops self.now.stretch }
         ensures value { result ≡ self.now.offset + 1 + position }
-        ensures within { result ≤ self.now.offset + values self.now.stretch }
+        ensures within { result ≤ kept_end self.now }
     {
         self.offset + 1 + position
     }
@@ -38,7 +38,7 @@ impl Kept<'_> {
     pub fn out_at(&self, position: u32) -> u32
         requires { position ≤ hops self.now.stretch }
         ensures value { result ≡ self.now.offset + 1 + hops self.now.stretch + 1 + position }
-        ensures within { result ≤ self.now.offset + values self.now.stretch }
+        ensures within { result ≤ kept_end self.now }
     {
         self.offset + 1 + self.hops() + 1 + position
     }

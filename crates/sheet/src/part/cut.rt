@@ -1,5 +1,5 @@
 // How much of a stream a part has.
-ghost use Rattle.std.specs.Prelude.{◌≡◌, ◌<◌, ◌≤◌, Some, None};
+ghost use Rattle.std.specs.Prelude.{◌≡◌, ◌<◌, ◌≤◌, MatchOption};
 ghost use Rattle.sheet.specs.Parts.{Cut, pairs_of, rows_of, stream_rows, values, width_of};
 
 use chain::stream::Stream;
@@ -7,7 +7,7 @@ use chain::stretch::Stretch;
 
 // What is left of a stretch that is cut after a relay; nothing if it begins later.
 pub fn cut(stretch: &Stretch, last: u32) -> Option<Stretch>
-    ensures { elim result [ Some kept ↦ Cut stretch.now last kept | None ↦ last < stretch.now.from ] }
+    ensures { MatchOption result (last < stretch.now.from) (Cut stretch.now last) }
 {
     if last < stretch.from {
         return None;
@@ -32,10 +32,7 @@ pub fn width(stretch: &Stretch, last: u32) -> u32
     ensures value { result ≡ width_of last stretch.now }
     ensures few { result ≤ 18 }
 {
-    match cut(stretch, last) {
-        Some(kept) => values(&kept),
-        None => 0,
-    }
+    cut(stretch, last).map_or(0, |kept| values(&kept))
 }
 
 // Pairs of different nodes on a stretch of so many relays.
@@ -61,8 +58,8 @@ pub fn rows_of(stream: &Stream, last: u32) -> u32
     ensures value { result ≡ stream_rows last stream.now }
     ensures few { result ≤ 170 }
 {
-    match cut(&stream.stretch, last) {
-        Some(kept) => stream_rows(kept.hops(), stream.curve.lines().len() as u32),
-        None => 0,
-    }
+    cut(&stream.stretch, last).map_or(
+        0,
+        |kept| stream_rows(kept.hops(), stream.curve.lines().len() as u32),
+    )
 }

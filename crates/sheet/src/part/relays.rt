@@ -1,6 +1,5 @@
 // The lines of relays.
-ghost use Rattle.std.specs.Prelude.{◌≤◌, length};
-ghost use Rattle.sheet.specs.declared.part.relays.Spot.TheVariants.{Line, Past};
+ghost use Rattle.std.specs.Prelude.{◌≤◌, length, IfOk};
 
 use chain::line::ServiceLine;
 use chain::stream::Relay;
@@ -12,29 +11,21 @@ pub struct RelayLine {
     pub line: ServiceLine,
 }
 
-// Where an index among the lines of relays leads: to one of them, or past them all, by how far.
-#[derive(Clone, Copy)]
-pub enum Spot {
-    Line(RelayLine),
-    Past(u32),
-}
-
-// The line at an index, from 0.
-pub fn find_line(relays: &[Relay], index: u32) -> Spot
+// The line at an index, from 0, among the lines of relays; else how far past them all the index is.
+pub fn find_line(relays: &[Relay], index: u32) -> Result<RelayLine, u32>
     requires { length relays.now ≤ 8 }
-    ensures { elim result [ Line at ↦ (1 ≤ at.relay) × (at.relay ≤ length relays.now) | Past left ↦ Unit {0} ] }
+    ensures { IfOk result (λ at. (1 ≤ at.relay) × (at.relay ≤ length relays.now)) }
 {
     let mut left = index;
-    for i in 0..relays.len() {
-        let lines = relays[i].curve.lines();
-        let count = lines.len() as u32;
-        if left < count {
-            return Spot::Line(RelayLine {
+    for (i, relay) in relays.iter().enumerate() {
+        let lines = relay.curve.lines();
+        if let Some(line) = lines.get(left as usize) {
+            return Ok(RelayLine {
                 relay: i as u32 + 1,
-                line: lines[left as usize],
+                line: *line,
             });
         }
-        left -= count;
+        left -= lines.len() as u32;
     }
-    Spot::Past(left)
+    Err(left)
 }

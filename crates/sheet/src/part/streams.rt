@@ -1,8 +1,8 @@
 // The streams of a part, and where the unknowns of each begin.
-ghost use Rattle.std.specs.Prelude.{◌≡◌, ℕ, ◌+◌, ◌<◌, ◌≤◌, Some, None};
+ghost use Rattle.std.specs.Prelude.{◌≡◌, ℕ, ◌+◌, ◌<◌, ◌≤◌, length, IfSome, MatchOption};
 ghost use Rattle.chain.specs.Shape.{next};
-ghost use Rattle.sheet.specs.Parts.{Cut, part_unknowns, width_of};
-ghost use Rattle.sheet.specs.Rows.{Fits};
+ghost use Rattle.sheet.specs.Parts.{Cut, stream_rows, widths};
+ghost use Rattle.sheet.specs.Rows.{Fits, terms_of};
 
 use crate::kept::Kept;
 use crate::part::Part;
@@ -11,39 +11,57 @@ use crate::row::Row;
 use chain::shape::next_relay;
 use chain::stream::Stream;
 
-// A stream of the chain, how many unknowns stand before its own, and an index among its rows.
+// A stream of the chain, the last relay of the part, and how many unknowns stand before the stream's own.
+#[derive(Clone, Copy)]
+pub struct PartStream<'a> {
+    pub stream: &'a Stream,
+    pub last: u32,
+    pub offset: u32,
+    ghost after_dates: { next last ≤ offset },
+    ghost few: { offset ≤ 320 },
+}
+
+// The streams that are still to come, in their order.
+#[derive(Drop)]
+pub struct PartStreams<'a> {
+    rest: &'a [Stream],
+    last: u32,
+    offset: u32,
+    ghost after_dates: { next last ≤ offset },
+    ghost few: { offset + widths last rest.now ≤ 320 },
+}
+
+// A stream of a part, and an index among its rows.
 #[derive(Clone, Copy)]
 pub struct Found<'a> {
-    pub stream: &'a Stream,
-    pub offset: u32,
+    pub stream: PartStream<'a>,
     pub index: u32,
 }
 
-// What a part has of a stream; nothing if it begins after the last relay.
-pub fn keep<'a>(stream: &'a Stream, last: u32, offset: u32) -> Option<Kept<'a>>
-    requires after_dates { next last ≤ offset }
-    requires few { offset ≤ 320 }
-    ensures { elim result [ Some kept ↦ (kept.offset ≡ offset) × Cut stream.now.stretch last kept.stretch × (kept.curve.now ≡ stream.now.curve) | None ↦ last < stream.now.stretch.from ] }
-{
-    match cut(&stream.stretch, last) {
-        Some(stretch) => Some(Kept {
-            stretch,
-            curve: &stream.curve,
-            offset,
-        }),
-        None => None,
-    }
-}
+impl<'a> PartStream<'a> {
+    ghost use Rattle.sheet.specs.Ends.{stream_end};
 
-// What a stream lets through a relay between its date and the next, if it crosses it.
-fn write_crossing(stream: &Stream, last: u32, offset: u32, relay: u32, out: &mut Row)
-    requires after_dates { next last ≤ offset }
-    requires few { offset ≤ 320 }
-    requires room { out.old.count ≤ 32 }
-    ensures count { out.new.count ≤ out.old.count + 2 }
-    ensures fits { (n : ℕ) → Fits n out.old → offset + width_of last stream.now.stretch ≤ n → Fits n out.new }
-{
-    if let Some(kept) = keep(stream, last, offset) {
+    // What the part has of it; nothing if it begins after the last relay.
+    pub fn keep(&self) -> Option<Kept<'a>>
+        ensures { MatchOption result (self.now.last < self.now.stream.now.stretch.from) (λ kept. (kept.offset ≡ self.now.offset) × Cut self.now.stream.now.stretch self.now.last kept.stretch × (kept.curve.now ≡ self.now.stream.now.curve)) }
+    {
+        let stretch = cut(&self.stream.stretch, self.last)?;
+        Some(Kept {
+            stretch,
+            curve: &self.stream.curve,
+            offset: self.offset,
+        })
+    }
+
+    // What it lets through a relay between its date and the next, if it crosses it.
+    fn write_crossing(&self, relay: u32, out: &mut Row)
+        requires room { length (terms_of out.old) ≤ 32 }
+        ensures count { length (terms_of out.new) ≤ length (terms_of out.old) + 2 }
+        ensures fits { (n : ℕ) → Fits n out.old → stream_end self.now ≤ n → Fits n out.new }
+    {
+        let Some(kept) = self.keep() else {
+            return;
+        };
         if let Some(position) = kept.stretch.position(relay) {
             out.plus(kept.out_at(position), 1);
             out.minus(kept.out_at(position + 1), 1);
@@ -51,39 +69,78 @@ fn write_crossing(stream: &Stream, last: u32, offset: u32, relay: u32, out: &mut
     }
 }
 
+impl<'a> PartStreams<'a> {
+    // All of these, in the part that leads to a relay; the unknowns of the first come after the dates.
+    pub fn new(streams: &'a [Stream], last: u32) -> PartStreams<'a>
+        requires some { length streams.now ≤ 16 }
+        requires short { last ≤ 8 }
+        ensures rest { result.rest.now ≡ streams.now }
+        ensures last { result.last ≡ last }
+        ensures offset { result.offset ≡ next last }
+    {
+        PartStreams {
+            rest: streams,
+            last,
+            offset: next_relay(last),
+        }
+    }
+}
+
+impl<'a> Iterator for PartStreams<'a> {
+    type Item = PartStream<'a>;
+
+    ghost use Rattle.std.specs.Prelude.{length};
+    ghost use Rattle.std.specs.Iterator.{at_most};
+    ghost use Rattle.sheet.specs.Streams.{TakesFirst};
+
+    ghost next_gives = { TakesFirst };
+
+    ghost remaining = { λ s. at_most (length s.rest.now) };
+
+    fn next(&mut self) -> Option<PartStream<'a>> {
+        let (stream, rest) = self.rest.split_first()?;
+        let first = PartStream {
+            stream,
+            last: self.last,
+            offset: self.offset,
+        };
+        *self = PartStreams {
+            rest,
+            last: self.last,
+            offset: self.offset + width(&stream.stretch, self.last),
+        };
+        Some(first)
+    }
+}
+
 impl<'a> Part<'a> {
+    ghost use Rattle.sheet.specs.Ends.{part_end, stream_end};
+
     // The stream that has the row at an index, from 0, among the rows of all streams.
     pub fn find_stream(&self, index: u32) -> Option<Found<'a>>
-        ensures { elim result [ Some found ↦ (next self.now.last ≤ found.offset) × (found.offset ≤ 320) × (found.offset + width_of self.now.last found.stream.now.stretch ≤ part_unknowns self.now.chain.now self.now.last) | None ↦ Unit {0} ] }
+        ensures { IfSome result (λ found. (found.index < stream_rows self.now.last found.stream.stream.now) × (found.stream.last ≡ self.now.last) × (stream_end found.stream ≤ part_end self.now)) }
     {
-        let streams = self.chain.streams();
-        let mut offset = next_relay(self.last);
         let mut left = index;
-        for stream in streams {
-            let rows = rows_of(stream, self.last);
+        for stream in PartStreams::new(self.streams(), self.last) {
+            let rows = rows_of(stream.stream, self.last);
             if left < rows {
                 return Some(Found {
                     stream,
-                    offset,
                     index: left,
                 });
             }
             left -= rows;
-            offset += width(&stream.stretch, self.last);
         }
         None
     }
 
     // What each stream lets through a relay, in their order.
     pub fn write_crossings(&self, relay: u32, out: &mut Row)
-        requires { out.old.count ≤ 2 }
-        ensures { (n : ℕ) → Fits n out.old → part_unknowns self.now.chain.now self.now.last ≤ n → Fits n out.new }
+        requires { length (terms_of out.old) ≤ 2 }
+        ensures { (n : ℕ) → Fits n out.old → part_end self.now ≤ n → Fits n out.new }
     {
-        let streams = self.chain.streams();
-        let mut offset = next_relay(self.last);
-        for stream in streams {
-            write_crossing(stream, self.last, offset, relay, out);
-            offset += width(&stream.stretch, self.last);
+        for stream in PartStreams::new(self.streams(), self.last) {
+            stream.write_crossing(relay, out);
         }
     }
 }

@@ -1,8 +1,9 @@
 // Writing and reading a row.
-ghost use Rattle.std.specs.Prelude.{◌≡◌, ℕ, ◌+◌, ◌<◌, ◌≤◌, [], ◌++◌, length, pos, negsuc, neg_ℤ, ◌≢◌, unsigned_abs};
-ghost use Rattle.sheet.specs.Rows.{Fits, term_of, terms_of};
+ghost use Rattle.std.specs.Prelude.{◌≡◌, ℕ, ◌+◌, ◌<◌, ◌≤◌, [], ◌++◌, length, pos, negsuc, neg_ℤ, unsigned_abs};
+ghost use Rattle.sheet.specs.Rows.{Adds, Fits, term_of, terms_of};
 
 use crate::row::{Row, Term};
+use few::Few;
 
 impl Row {
     // A row without terms: 0 is at most 0.
@@ -11,11 +12,10 @@ impl Row {
         ensures right { result.right ≡ pos 0 }
     {
         Row {
-            places: [Term {
+            terms: Few::none(Term {
                 unknown: 0,
                 times: 0,
-            }; 34],
-            count: 0,
+            }),
             right: 0,
         }
     }
@@ -23,57 +23,35 @@ impl Row {
     // Begins the row anew, with no term yet.
     pub fn start(&mut self, right: i64)
         ensures terms { terms_of self.new ≡ [] }
-        ensures count { self.new.count ≡ 0 }
         ensures right { self.new.right ≡ right }
         ensures fits { unsigned_abs right ≤ 16777216 → (n : ℕ) → Fits n self.new }
     {
-        self.count = 0;
+        self.terms.clear();
         self.right = right;
-    }
-
-    // One term more, which is not 0 times its unknown.
-    fn push(&mut self, unknown: u32, times: i64)
-        requires room { self.old.count < 34 }
-        requires some { times ≢ pos 0 }
-        ensures terms { terms_of self.new ≡ terms_of self.old ++ term_of unknown times }
-        ensures count { self.new.count ≡ self.old.count + 1 }
-        ensures right { self.new.right ≡ self.old.right }
-        ensures fits { (n : ℕ) → Fits n self.old → 1 ≤ unknown → unknown ≤ n → unsigned_abs times ≤ 1048576 → Fits n self.new }
-    {
-        self.places[self.count] = Term { unknown, times };
-        self.count += 1;
     }
 
     // One term more; none if it is 0 times its unknown.
     pub fn put(&mut self, unknown: u32, times: i64)
-        requires { self.old.count < 34 }
-        ensures terms { terms_of self.new ≡ terms_of self.old ++ term_of unknown times }
-        ensures count { self.new.count ≤ self.old.count + 1 }
-        ensures right { self.new.right ≡ self.old.right }
-        ensures fits { (n : ℕ) → Fits n self.old → 1 ≤ unknown → unknown ≤ n → unsigned_abs times ≤ 1048576 → Fits n self.new }
+        requires { length (terms_of self.old) < 34 }
+        ensures { Adds self.old self.new unknown times }
     {
         if times == 0 {
             return;
         }
-        self.push(unknown, times);
+        self.terms.push(Term { unknown, times });
     }
 
+    // `plus` and `minus`, `rises` and `falls`: terms are written in the order of the unknowns, so the name says which side one is on.
     pub fn plus(&mut self, unknown: u32, times: u32)
-        requires { self.old.count < 34 }
-        ensures terms { terms_of self.new ≡ terms_of self.old ++ term_of unknown (pos times) }
-        ensures count { self.new.count ≤ self.old.count + 1 }
-        ensures right { self.new.right ≡ self.old.right }
-        ensures fits { (n : ℕ) → Fits n self.old → 1 ≤ unknown → unknown ≤ n → times ≤ 1048576 → Fits n self.new }
+        requires { length (terms_of self.old) < 34 }
+        ensures { Adds self.old self.new unknown (pos times) }
     {
         self.put(unknown, i64::from(times));
     }
 
     pub fn minus(&mut self, unknown: u32, times: u32)
-        requires { self.old.count < 34 }
-        ensures terms { terms_of self.new ≡ terms_of self.old ++ term_of unknown (neg_ℤ (pos times)) }
-        ensures count { self.new.count ≤ self.old.count + 1 }
-        ensures right { self.new.right ≡ self.old.right }
-        ensures fits { (n : ℕ) → Fits n self.old → 1 ≤ unknown → unknown ≤ n → times ≤ 1048576 → Fits n self.new }
+        requires { length (terms_of self.old) < 34 }
+        ensures { Adds self.old self.new unknown (neg_ℤ (pos times)) }
     {
         self.put(unknown, -i64::from(times));
     }
@@ -104,6 +82,6 @@ impl Row {
         ensures value { result.now ≡ terms_of self.now }
         ensures few { length result.now ≤ 34 }
     {
-        &self.places[0..self.count]
+        self.terms.as_slice()
     }
 }

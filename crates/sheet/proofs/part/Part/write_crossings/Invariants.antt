@@ -1,12 +1,15 @@
-use Rattle.std.proofs.Common.{ℕ, ◌+◌, ◌*◌, ◌≤◌}
-use Rattle.chain.specs.Shape.{next}
-use Rattle.sheet.specs.Parts.{widths}
-use Rattle.sheet.specs.Rows.{Fits}
-use Rattle.sheet.proofs.Counts.{Begins}
+use Rattle.std.proofs.Common.{◌≡◌, ℕ, ◌+◌, ◌*◌, ◌≤◌, length}
+use Rattle.sheet.specs.Ends.{part_end}
+use Rattle.sheet.specs.Rows.{Fits, terms_of}
+use Rattle.sheet.proofs.StreamLaws.{end_of}
 use Rattle.sheet.proofs.part.Part.write_crossings.Given as goal
 
 abbrev pub invariant-loop-stream : goal.invariant-loop-stream
 invariant-loop-stream l =
-    Begins l.self.last l.streams l.stream-index l.offset
-    × (l.out.count ≤ 2 + 2 * l.stream-index)
-    × ((n : ℕ) → Fits n l.initial.out → next l.self.last + widths l.self.last l.streams ≤ n → Fits n l.out)
+    record {
+      can_next : (goal.iterator-loop-stream).can_next l.stream-iterator;
+      finite : (goal.iterator-loop-stream).is_finite l.stream-iterator;
+      end : end_of l.stream-iterator ≡ part_end l.self;
+      room : length (terms_of l.out) + 2 * length l.stream-iterator.rest.now ≤ 34;
+      fits : (n : ℕ) → Fits n l.fn.out → part_end l.self ≤ n → Fits n l.out;
+    }

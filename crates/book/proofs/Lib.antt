@@ -1,3 +1,0 @@
-pub mod WriteLaws
-pub mod WroteLaws
-pub mod JudgeLaws
