@@ -31,6 +31,7 @@ impl<'a, S: Sheet> Weighing<'a, S> {
         requires { length sums.old ≡ (S.Sheet.meaning sheet.now).unknowns }
         ensures sheet { result.sheet.now ≡ sheet.now }
         ensures lent { result.sums.ghost_name ≡ sums.entry.ghost_name }
+        ensures held { result.sums.now ≡ sums.old }
     {
         Weighing {
             sheet,
