@@ -80,3 +80,12 @@ impl From<BookFault> for Refusal {
         }
     }
 }
+
+impl BookFault {
+    // The number and the two values by which it is told.
+    pub fn refusal(self) -> Refusal
+        ensures { result ≡ book_refusal self }
+    {
+        self.into()
+    }
+}

@@ -9,9 +9,16 @@ mod tests {
     use book::show;
     use book::verdict::Verdict;
     use book::write::write_refusal;
+    use chain::curve::{ArrivalCurve, ServiceCurve};
+    use chain::draft::{Draft, RelayDraft, StreamDraft};
+    use chain::line::ServiceLine;
+    use chain::read::read_draft;
+    use chain::stream::{Relay, Stream};
+    use sheet::row::Row;
     use std::alloc::Global;
     use std::test::Fail;
     use text::fault::Refusal;
+    use text::page::Page;
 
     const CHAIN: &[u8] = b"relay rate hold\n1 10 20\nstream from to burst rate\n1 1 1 5 2\n";
     // The same curves: each further line is covered by another.
@@ -270,6 +277,72 @@ mod tests {
         assert!(rt; entered(&mut book, PAPER)? == 3);
         assert_eq!(rt; refusal_of(book.open(rt.alloc(), b"")), told(26, 0, 0));
         assert!(rt; delay_of(&book) == 3);
+        Ok(())
+    }
+
+    fn put(page: Page) -> usize {
+        let mut out = [46u8; 8];
+        page.put(&mut out).unwrap_or(9)
+    }
+
+    fn terms(row: Row) -> usize {
+        row.terms().len()
+    }
+
+    fn lines(curve: ArrivalCurve) -> usize {
+        curve.lines().len()
+    }
+
+    fn service_lines(relay: Relay) -> usize {
+        relay.curve.lines().len()
+    }
+
+    fn arrival_lines(stream: Stream) -> usize {
+        lines(stream.curve)
+    }
+
+    fn relays(draft: RelayDraft) -> usize {
+        draft.len()
+    }
+
+    fn streams(draft: StreamDraft) -> usize {
+        draft.len()
+    }
+
+    fn is_empty(draft: Draft) -> bool {
+        match draft {
+            Draft::Empty => true,
+            _ => false,
+        }
+    }
+
+    // Each of these is copied where it is passed on, so that it can be passed on again.
+    #[test]
+    fn tables_are_copied(rt: HostRuntime) -> Result<(), Fail> {
+        let page = Page::empty();
+        assert!(rt; put(page) == 0 && put(page) == 0);
+        let row = Row::blank();
+        assert!(rt; terms(row) == 0 && terms(row) == 0);
+        let draft = read_draft(SAME_CHAIN)?;
+        assert!(rt; streams(draft) == 1 && streams(draft) == 1);
+        let none = RelayDraft::empty();
+        assert!(rt; relays(none) == 0 && relays(none) == 0);
+        let empty = Draft::Empty;
+        assert!(rt; is_empty(empty) && is_empty(empty));
+        Ok(())
+    }
+
+    #[test]
+    fn curves_are_copied(rt: HostRuntime) -> Result<(), Fail> {
+        let draft = read_draft(SAME_CHAIN)?;
+        let stream = *draft.streams().first().ok_or("no stream")?;
+        assert!(rt; arrival_lines(stream) == 2 && arrival_lines(stream) == 2);
+        let curve = stream.curve;
+        assert!(rt; lines(curve) == 2 && lines(curve) == 2);
+        let relay = Relay {
+            curve: ServiceCurve::single(ServiceLine { rate: 1, hold: 0 }),
+        };
+        assert!(rt; service_lines(relay) == 1 && service_lines(relay) == 1);
         Ok(())
     }
 }

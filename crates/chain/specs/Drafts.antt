@@ -1,5 +1,6 @@
 -- How a line of a chain's text adds to the relays and streams before it.
 use Rattle.std.specs.Prelude.{ℕ, ◌+◌, ◌-◌, Bool, cond, ◌&&◌, ◌||◌, List, [], ◌∷◌, ◌++◌, map, length, Ok, Result, ◌==◌, nat_le, nat_lt, slice_index_or, slice_set}
+use Rattle.few.specs.Values.{items}
 use Rattle.text.specs.declared.fault.Fault.{Fault}
 use Rattle.text.specs.declared.fault.Fault.TheVariants.{WrongNumber, WrongStretch, TooMany}
 use Rattle.text.specs.Continue.{and_then, unless}
@@ -63,7 +64,7 @@ abbrev pub place_stream : ℕ → List StreamPlan → StreamLine → Result (Lis
 place_stream n ss r = and_then (place_of r.number (length ss) r.at) (λ k. cond (nat_lt k (length ss)) (further_stream ss k r) (next_stream n ss r))
 
 abbrev pub relay_plans : RelayDraft → List (List Serves)
-relay_plans d = map relay_plan d.table.items
+relay_plans d = map relay_plan (items d.table)
 
 abbrev pub stream_plans : StreamDraft → List StreamPlan
-stream_plans d = map stream_plan d.table.items
+stream_plans d = map stream_plan (items d.table)

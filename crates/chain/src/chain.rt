@@ -35,13 +35,14 @@ fn table_of<T: Copy>(heap: Global, room: usize, items: &[T]) -> Result<Vec<T>, A
 }
 
 impl Chain {
+    ghost use Rattle.few.specs.Values.{items};
     ghost use Rattle.chain.specs.Plan.{plan_of};
     ghost use Rattle.chain.specs.Texts.{draft_plan};
     ghost use Rattle.chain.specs.Views.{relays_of, streams_of};
 
     // Makes a chain of a draft.
     pub fn build(heap: Global, draft: &StreamDraft) -> Result<Chain, AllocError>
-        requires { 1 ≤ length draft.now.table.items }
+        requires { 1 ≤ length (items draft.now.table) }
         ensures { IfOk result (λ c. plan_of c ≡ draft_plan draft.now) }
     {
         let relays = table_of(heap, 8, draft.relays.relays())?;

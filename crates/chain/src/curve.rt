@@ -1,5 +1,6 @@
 // Curves: one to four lines each.
 ghost use Rattle.std.specs.Prelude.{◌≡◌, ◌≤◌, ◌<◌, ◌↔◌, [], ◌∷◌, ◌++◌, length, IsOk, OnOk, OnErr};
+ghost use Rattle.few.specs.Values.{items};
 
 use crate::line::{ArrivalLine, ServiceLine};
 use few::{Few, Full};
@@ -8,9 +9,9 @@ use std::alloc::AllocError;
 #[derive(Copy)]
 pub struct Curve<L> {
     lines: Few<L, 4>,
-    ghost some: { 1 ≤ length lines.items },
-    // The limit of the table, said again for any value that a clause may name.
-    ghost few: { length lines.items ≤ 4 },
+    ghost some: { 1 ≤ length (items lines) },
+    // The limit of the table, said of its list, where proofs look for it.
+    ghost few: { length (items lines) ≤ 4 },
 }
 
 // What may enter: the least of burst + rate × d over its lines (an arrival curve).

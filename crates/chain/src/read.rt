@@ -1,5 +1,6 @@
 // Reads a chain's text.
 ghost use Rattle.std.specs.Prelude.{◌≡◌, ◌≤◌, length};
+ghost use Rattle.few.specs.Values.{items};
 ghost use Rattle.chain.specs.Drafts.{relay_plans, stream_plans};
 ghost use Rattle.text.specs.Continue.{ok_as, KeptOk};
 ghost use Rattle.chain.specs.Texts.{Stage, relay_step, stream_step, chain_step, read_chain, stage_of, draft_plan};
@@ -55,14 +56,16 @@ impl LineSink for Draft {
 // Reads a chain's text, which has to hold relays and at least the stop stream, or says what is wrong with it first.
 pub fn read_draft(text: &[u8]) -> Result<StreamDraft, Fault>
     ensures plan { ok_as draft_plan result ≡ read_chain text.now }
-    ensures some { KeptOk (λ d. 1 ≤ length d.table.items) result }
+    ensures some { KeptOk (λ d. 1 ≤ length (items d.table)) result }
 {
     let lines = Lines::new(text)?;
     let mut draft = Draft::Empty;
     let line = read_lines(&mut draft, lines)?;
-    match draft {
-        Draft::Streams(streams) if !streams.streams().is_empty() => Ok(streams),
-        Draft::Streams(_) => Err(Fault::NoStream { line }),
-        Draft::Empty | Draft::Relays(_) => Err(Fault::EndsEarly { line }),
+    let Draft::Streams(streams) = draft else {
+        return Err(Fault::EndsEarly { line });
+    };
+    if streams.streams().is_empty() {
+        return Err(Fault::NoStream { line });
     }
+    Ok(streams)
 }

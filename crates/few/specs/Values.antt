@@ -1,7 +1,7 @@
--- What a contract sees of a few values.
-use Rattle.std.specs.Prelude.{List}
+-- What a table holds.
+use Rattle.std.specs.Prelude.{ℕ, List, take}
+use Rattle.few.specs.declared.Few.{Few}
 
--- the values in order, and what stands behind them, of which no clause says anything
-pub record Values (T : Type 0) : Type 0 where
-  pub items : List T
-  pub spare : List T
+-- the values in order, without what stands behind them
+abbrev pub items : {T : Type 0} → {N : ℕ} → Few T N → List T
+items f = take f.len f.places

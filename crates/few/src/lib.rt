@@ -3,7 +3,7 @@
 
 ghost use Rattle.std.specs.Prelude.{◌≡◌, ◌+◌, ◌≤◌, ◌<◌, ◌↔◌, [], ◌∷◌, ◌++◌, length, slice_set, IsOk, OnOk, OnErr};
 
-use std::marker::Model;
+use std::alloc::AllocError;
 
 // There is no room for one more value.
 #[derive(Clone, Copy, Debug, PartialEq, Eq)]
@@ -11,35 +11,27 @@ pub struct Full;
 
 // At most N values, in order. Unlike the vector of the crate `arrayvec` it can be copied, and its values need no default: the places
 // behind them hold whatever value it was made with.
-#[derive(Clone, Copy)]
+#[derive(Copy)]
 pub struct Few<T, const N: usize> {
     places: [T; N],
     len: usize,
+    ghost all: { length places ≡ N },
+    ghost few: { len ≤ N },
 }
 
-impl<T, const N: usize> Model for Few<T, N> {
-    ghost use Rattle.std.specs.Prelude.{◌≡◌, ◌≤◌, ◌++◌, length, take, drop};
-    ghost use Rattle.std.proofs.Common.{arith, take-append-drop, length-take-le};
-    ghost use Rattle.few.specs.Values.{Values};
-
-    ghost Value = { Values T };
-
-    ghost view = { λ f. record { items = take f.len f.places; spare = drop f.len f.places } };
-
-    ghost invariant = { λ f. (f.len ≤ N) × (length f.places ≡ N) };
-
-    ghost inverse = { λ f. record { places = f.items ++ f.spare; len = length f.items } };
-
-    ghost inverse_ok = { λ f h i. record {
-      places = take-append-drop f.len f.places i;
-      len = length-take-le f.len f.places (omega (arith, h.0, h.1)) i;
-    } };
+// By hand, since a derived `Clone` of a generic struct with a ghost field is refused.
+impl<T: Copy, const N: usize> Clone for Few<T, N> {
+    fn clone(&self) -> Result<Few<T, N>, AllocError> {
+        Ok(*self)
+    }
 }
 
 impl<T: Copy, const N: usize> Few<T, N> {
+    ghost use Rattle.few.specs.Values.{items};
+
     // No value yet; the filler is none of them.
     pub fn none(filler: T) -> Few<T, N>
-        ensures { result.items ≡ [] }
+        ensures { items result ≡ [] }
     {
         Few {
             places: [filler; N],
@@ -50,7 +42,7 @@ impl<T: Copy, const N: usize> Few<T, N> {
     // One value.
     pub fn one(value: T) -> Few<T, N>
         requires { 1 ≤ N }
-        ensures { result.items ≡ value ∷ [] }
+        ensures { items result ≡ value ∷ [] }
     {
         let mut few = Few::none(value);
         few.push(value);
@@ -58,14 +50,14 @@ impl<T: Copy, const N: usize> Few<T, N> {
     }
 
     pub fn len(&self) -> usize
-        ensures value { result ≡ length self.now.items }
+        ensures value { result ≡ length (items self.now) }
         ensures few { result ≤ N }
     {
         self.as_slice().len()
     }
 
     pub fn as_slice(&self) -> &[T]
-        ensures value { result.now ≡ self.now.items }
+        ensures value { result.now ≡ items self.now }
         ensures few { length result.now ≤ N }
     {
         &self.places[..self.len]
@@ -73,8 +65,8 @@ impl<T: Copy, const N: usize> Few<T, N> {
 
     // Adds a value that has room.
     pub fn push(&mut self, value: T)
-        requires { length self.old.items < N }
-        ensures { self.new.items ≡ self.old.items ++ value ∷ [] }
+        requires { length (items self.old) < N }
+        ensures { items self.new ≡ items self.old ++ value ∷ [] }
     {
         self.places[self.len] = value;
         self.len += 1;
@@ -82,8 +74,8 @@ impl<T: Copy, const N: usize> Few<T, N> {
 
     // Adds a value, if it has room.
     pub fn try_push(&mut self, value: T) -> Result<(), Full>
-        ensures told { IsOk result ↔ (length self.old.items < N) }
-        ensures ok { OnOk result (self.new.items ≡ self.old.items ++ value ∷ []) }
+        ensures told { IsOk result ↔ (length (items self.old) < N) }
+        ensures ok { OnOk result (items self.new ≡ items self.old ++ value ∷ []) }
         ensures err { OnErr result (self.new ≡ self.old) }
     {
         if self.len >= N {
@@ -95,8 +87,8 @@ impl<T: Copy, const N: usize> Few<T, N> {
 
     // Adds values that have room.
     pub fn extend_from_slice(&mut self, values: &[T])
-        requires { length self.old.items + length values.now ≤ N }
-        ensures { self.new.items ≡ self.old.items ++ values.now }
+        requires { length (items self.old) + length values.now ≤ N }
+        ensures { items self.new ≡ items self.old ++ values.now }
     {
         let start = self.len;
         self.len += values.len();
@@ -106,8 +98,8 @@ impl<T: Copy, const N: usize> Few<T, N> {
 
     // Puts a value in the place of the one at k.
     pub fn set(&mut self, k: usize, value: T)
-        requires { k < length self.old.items }
-        ensures { self.new.items ≡ slice_set self.old.items k value }
+        requires { k < length (items self.old) }
+        ensures { items self.new ≡ slice_set (items self.old) k value }
     {
         let values = &mut self.places[..self.len];
         values[k] = value;
@@ -115,7 +107,7 @@ impl<T: Copy, const N: usize> Few<T, N> {
 
     // Forgets all values.
     pub fn clear(&mut self)
-        ensures { self.new.items ≡ [] }
+        ensures { items self.new ≡ [] }
     {
         self.len = 0;
     }

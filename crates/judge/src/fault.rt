@@ -42,3 +42,12 @@ impl From<JudgeFault> for Refusal {
         }
     }
 }
+
+impl JudgeFault {
+    // The number and the two values by which it is told.
+    pub fn refusal(self) -> Refusal
+        ensures { result ≡ judge_refusal self }
+    {
+        self.into()
+    }
+}

@@ -1,6 +1,6 @@
 // Judges a paper's lines, place by place.
-ghost use Rattle.std.specs.Prelude.{◌≡◌, length, drop};
-ghost use Rattle.text.specs.Continue.{ok_as};
+ghost use Rattle.std.specs.Prelude.{◌≡◌, ◌+◌, ◌≤◌, length, drop};
+ghost use Rattle.text.specs.Continue.{KeptOk, ok_as};
 ghost use Rattle.judge.specs.Outcomes.{Judged, Shown};
 ghost use Rattle.judge.specs.Papers.{bytes_of, check_paper};
 
@@ -18,7 +18,8 @@ fn check_paper<'a, S: Sheet>(
     body: PaperLines<'a>,
     room: usize,
 ) -> Result<PaperLines<'a>, JudgeFault>
-    ensures { ok_as bytes_of result ≡ check_paper (S.Sheet.meaning sheet.now) room body.entry.lines.first body.entry.lines.text.now }
+    ensures lines { ok_as bytes_of result ≡ check_paper (S.Sheet.meaning sheet.now) room body.entry.lines.first body.entry.lines.text.now }
+    ensures later { KeptOk (λ p. p.lines.first + length p.lines.text.now ≤ body.entry.lines.first + length body.entry.lines.text.now) result }
 {
     let (names, rest) = body.lines.expect_first()?;
     entry_names(names)?;
@@ -41,7 +42,7 @@ fn judge_places<S: Sheet>(
 {
     let mut weighing = Weighing::new(sheet, sums);
     let mut rest = body;
-    for place in 1..=sheet.places() {
+    for place in 1..=weighing.places {
         rest = weighing.judge_place(stated, place, rest)?;
     }
     Ok(())

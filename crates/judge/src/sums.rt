@@ -2,6 +2,7 @@
 // the times of an entry or the scale of a paper, two types with the same limit, so it is a plain number here.
 ghost use Rattle.std.specs.Prelude.{◌≡◌, ℕ, ◌+◌, ◌-◌, ◌*◌, ◌^◌, ◌<◌, ◌≤◌, length, replicate, pos, ◌+ℤ◌, ◌*ℤ◌, slice_index_or, slice_set, unsigned_abs};
 ghost use Rattle.std.specs.List.{AllByRecursion};
+ghost use Rattle.sheet.specs.Kind.{Limits};
 ghost use Rattle.sheet.specs.Rows.{Fine, Fits, terms_of};
 ghost use Rattle.judge.specs.Sums.{coefficient, lowest, misses};
 
@@ -50,6 +51,7 @@ pub fn add_row(row: &Row, times: u32, sums: &mut [i64])
 
 // The lowest unknown whose sum is not scale times what the goal multiplies it by.
 pub fn find_miss<S: Sheet>(sheet: &S, scale: u32, sums: &[i64]) -> Option<u32>
+    requires limits { Limits (S.Sheet.meaning sheet.now) }
     requires scale { scale ≤ 1048576 }
     requires room { length sums.now ≡ (S.Sheet.meaning sheet.now).unknowns }
     ensures { result ≡ lowest (misses (S.Sheet.meaning sheet.now).goal scale sums.now) 1 (S.Sheet.meaning sheet.now).unknowns }

@@ -1,6 +1,7 @@
 // Weighs the lines of one place after another: the weighted rows are added up and held against the goal.
 ghost use Rattle.std.specs.Prelude.{◌≡◌, ℕ, ◌+◌, ◌*◌, ◌^◌, ◌≤◌, length, unsigned_abs};
 ghost use Rattle.std.specs.List.{AllByRecursion};
+ghost use Rattle.sheet.specs.Kind.{Limits};
 ghost use Rattle.text.specs.Continue.{KeptOk};
 ghost use Rattle.judge.specs.Outcomes.{OnlyReading, place_verdict, Shown};
 
@@ -14,13 +15,16 @@ use sheet::row::Row;
 use sheet::sheet::Sheet;
 use text::fault::Fault;
 
-// A sheet, the sums of one of its places after another, in memory that the caller lends, and a place for a row.
+// A sheet and how many places it has, the sums of one of them after another, in memory that the caller lends, and a place for a row.
 #[derive(Drop)]
 pub struct Weighing<'a, S: Sheet> {
     pub sheet: &'a S,
+    pub places: u32,
     row: Row,
     pub sums: &'a mut [i64],
     ghost room: { length sums.now ≡ (S.Sheet.meaning sheet.now).unknowns },
+    ghost counted: { places ≡ (S.Sheet.meaning sheet.now).places },
+    ghost limits: { Limits (S.Sheet.meaning sheet.now) },
 }
 
 impl<'a, S: Sheet> Weighing<'a, S> {
@@ -35,16 +39,18 @@ impl<'a, S: Sheet> Weighing<'a, S> {
     {
         Weighing {
             sheet,
+            places: sheet.places(),
             row: Row::blank(),
             sums,
         }
     }
 
     // Adds the row of a line, so many times, to the sums, and answers so many times its right side.
+    #[tactic(auto, using(crate::proofs::Ints::abs_times))]
     fn add_entry(&mut self, entry: Entry, line: u32) -> Result<i64, Fault>
         requires small { AllByRecursion (λ z. unsigned_abs z ≤ 2 ^ 62) self.old.sums.now }
         ensures same { Continues self.old self.new }
-        ensures right { KeptOk (λ z. unsigned_abs z ≤ 2 ^ 45) result }
+        ensures right { KeptOk (λ z. unsigned_abs z ≤ 2 ^ 44) result }
         ensures bound { KeptOk (λ _. (b : ℕ) → AllByRecursion (λ z. unsigned_abs z ≤ b) self.old.sums.now → AllByRecursion (λ z. unsigned_abs z ≤ b + 34 * 2 ^ 40) self.new.sums.now) result }
     {
         if !self.sheet.row(entry.place, entry.row, &mut self.row) {

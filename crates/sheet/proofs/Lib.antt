@@ -1,2 +1,3 @@
 pub mod Counts
 pub mod StreamLaws
+pub mod RowLaws

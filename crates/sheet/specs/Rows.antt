@@ -1,11 +1,12 @@
 -- A row by the list of its terms, and the limits that every row keeps.
 use Rattle.std.specs.Prelude.{◌≡◌, ℕ, zero, suc, ◌+◌, ◌≤◌, List, [], ◌∷◌, ◌++◌, length, ℤ, pos, negsuc, Option, MatchOption, unsigned_abs}
+use Rattle.few.specs.Values.{items}
 use Rattle.std.specs.List.{AllByRecursion}
 use Rattle.sheet.specs.declared.row.Row.{Row}
 use Rattle.sheet.specs.declared.row.Term.{Term}
 
 abbrev pub terms_of : Row → List Term
-terms_of r = r.terms.items
+terms_of r = items r.terms
 
 -- a term that multiplies its unknown by 0 is left out
 abbrev pub term_of : ℕ → ℤ → List Term

@@ -1,5 +1,6 @@
 // One row of a sheet.
 ghost use Rattle.std.specs.Prelude.{◌≤◌, length};
+ghost use Rattle.few.specs.Values.{items};
 
 use few::Few;
 
@@ -17,5 +18,5 @@ pub struct Term {
 pub struct Row {
     terms: Few<Term, 34>,
     pub right: i64,
-    ghost few: { length terms.items ≤ 34 },
+    ghost few: { length (items terms) ≤ 34 },
 }

@@ -10,7 +10,8 @@ pub trait Sheet {
     ghost meaning: { Self → Kind };
 
     fn places(&self) -> u32
-        ensures { result ≡ (meaning self.now).places };
+        ensures count { result ≡ (meaning self.now).places }
+        ensures limits { Limits (meaning self.now) };
 
     fn unknowns(&self) -> u32
         ensures { result ≡ (meaning self.now).unknowns };
@@ -32,7 +33,4 @@ pub trait Sheet {
     fn ceiling(&self, claim: u32) -> u32
         requires { claim ≤ 16777216 }
         ensures { result ≡ (meaning self.now).ceiling claim };
-
-    // What each kind of sheet has to keep.
-    ghost limits: { (s : Self) → Limits (meaning s) };
 }

@@ -1,11 +1,12 @@
 -- What a page holds, what writing it into lent memory gives, and the text of a refusal.
 use Rattle.std.specs.Prelude.{ℕ, cond, List, [], ◌∷◌, ◌++◌, length, drop, Ok, Err, codes, decimal, Result, nat_le}
+use Rattle.few.specs.Values.{items}
 use Rattle.text.specs.declared.fault.Refusal.{Refusal}
 use Rattle.text.specs.declared.page.Page.{Page}
 use Rattle.text.specs.declared.page.Short.{Short}
 
 abbrev pub on_page : Page → List ℕ
-on_page p = p.text.items
+on_page p = items p.text
 
 -- the memory m after w was written from its start, untouched where w does not fit
 abbrev pub filled : List ℕ → List ℕ → List ℕ

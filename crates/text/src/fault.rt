@@ -63,3 +63,12 @@ impl From<Fault> for Refusal {
         }
     }
 }
+
+impl Fault {
+    // The number and the two values by which it is told.
+    pub fn refusal(self) -> Refusal
+        ensures { result ≡ refusal_of self }
+    {
+        self.into()
+    }
+}

@@ -1,5 +1,6 @@
 // Where text is gathered before it is copied out.
 ghost use Rattle.std.specs.Prelude.{◌≤◌, length};
+ghost use Rattle.few.specs.Values.{items};
 
 use few::Few;
 
@@ -11,5 +12,5 @@ pub struct Short;
 #[derive(Clone, Copy)]
 pub struct Page {
     pub(crate) text: Few<u8, 2048>,
-    ghost room: { length text.items ≤ 2048 },
+    ghost room: { length (items text) ≤ 2048 },
 }

@@ -1,5 +1,6 @@
 // The relays of a draft.
 ghost use Rattle.std.specs.Prelude.{◌≡◌, ◌≤◌, [], length};
+ghost use Rattle.few.specs.Values.{items};
 ghost use Rattle.text.specs.Continue.{ok_as};
 
 use crate::curve::ServiceCurve;
@@ -14,7 +15,7 @@ use text::fault::Fault;
 #[derive(Clone, Copy)]
 pub struct RelayDraft {
     pub(crate) table: Few<Relay, 8>,
-    ghost few: { length table.items ≤ 8 },
+    ghost few: { length (items table) ≤ 8 },
 }
 
 impl RelayDraft {
@@ -35,14 +36,14 @@ impl RelayDraft {
     // How many relays there are.
     pub fn len(&self) -> usize
         ensures plans { result ≡ length (relay_plans self.now) }
-        ensures count { result ≡ length self.now.table.items }
+        ensures count { result ≡ length (items self.now.table) }
         ensures few { result ≤ 8 }
     {
         self.table.len()
     }
 
     pub fn relays(&self) -> &[Relay]
-        ensures items { result.now ≡ self.now.table.items }
+        ensures items { result.now ≡ items self.now.table }
         ensures few { length result.now ≤ 8 }
     {
         self.table.as_slice()

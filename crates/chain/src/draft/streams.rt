@@ -1,5 +1,6 @@
 // The streams of a draft.
 ghost use Rattle.std.specs.Prelude.{◌≡◌, ◌≤◌, true, [], length};
+ghost use Rattle.few.specs.Values.{items};
 ghost use Rattle.text.specs.Continue.{ok_as, KeptOk};
 ghost use Rattle.chain.specs.Keeps.{lie_within, stops_if_any};
 
@@ -18,10 +19,10 @@ use text::fault::Fault;
 pub struct StreamDraft {
     pub(crate) relays: RelayDraft,
     pub(crate) table: Few<Stream, 16>,
-    ghost few: { length table.items ≤ 16 },
-    ghost some: { 1 ≤ length relays.table.items },
-    ghost lies: { lie_within (length relays.table.items) table.items ≡ true },
-    ghost stops: { stops_if_any (length relays.table.items) table.items ≡ true },
+    ghost few: { length (items table) ≤ 16 },
+    ghost some: { 1 ≤ length (items relays.table) },
+    ghost lies: { lie_within (length (items relays.table)) (items table) ≡ true },
+    ghost stops: { stops_if_any (length (items relays.table)) (items table) ≡ true },
 }
 
 impl StreamDraft {
@@ -30,7 +31,7 @@ impl StreamDraft {
 
     // No stream yet.
     pub fn new(relays: RelayDraft) -> StreamDraft
-        requires { 1 ≤ length relays.table.items }
+        requires { 1 ≤ length (items relays.table) }
         ensures relays { result.relays ≡ relays }
         ensures streams { stream_plans result ≡ [] }
     {
@@ -49,13 +50,13 @@ impl StreamDraft {
     // How many streams there are.
     pub fn len(&self) -> usize
         ensures plans { result ≡ length (stream_plans self.now) }
-        ensures count { result ≡ length self.now.table.items }
+        ensures count { result ≡ length (items self.now.table) }
     {
         self.table.len()
     }
 
     pub fn streams(&self) -> &[Stream]
-        ensures items { result.now ≡ self.now.table.items }
+        ensures items { result.now ≡ items self.now.table }
         ensures few { length result.now ≤ 16 }
     {
         self.table.as_slice()

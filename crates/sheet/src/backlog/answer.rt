@@ -41,12 +41,9 @@ impl<'a> BacklogSheet<'a> {
 }
 
 impl Sheet for BacklogSheet<'_> {
-    ghost use Rattle.sheet.specs.SheetLimits.{backlog_limits};
-
     ghost meaning = { λ s. backlog_kind s.part.chain.now s.part.last };
 
-    ghost limits = { backlog_limits };
-
+    #[tactic(auto, using(crate::specs::SheetLimits::backlog_limits))]
     fn places(&self) -> u32 {
         1
     }

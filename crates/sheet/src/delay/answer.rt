@@ -30,12 +30,9 @@ impl<'a> DelaySheet<'a> {
 }
 
 impl Sheet for DelaySheet<'_> {
-    ghost use Rattle.sheet.specs.SheetLimits.{delay_limits};
-
     ghost meaning = { λ s. delay_kind s.part.chain.now };
 
-    ghost limits = { delay_limits };
-
+    #[tactic(auto, using(crate::specs::SheetLimits::delay_limits))]
     fn places(&self) -> u32 {
         self.stop.hops()
     }

@@ -20,9 +20,15 @@ fn find_pair(relays: u32, index: u32) -> Option<Pair>
     requires { relays ≤ 8 }
     ensures { IfSome result (λ pair. (pair.first < pair.second) × (pair.second ≤ relays)) }
 {
+    // Of a first position, the pairs are as many as the nodes after it, and are passed over at once.
     (0..relays)
-        .flat_map(|first| (first + 1..=relays).map(move |second| Pair { first, second }))
-        .nth(index as usize)
+        .try_fold(index, |left, first| {
+            left.checked_sub(relays - first).ok_or_else(|| Pair {
+                first,
+                second: first + 1 + left,
+            })
+        })
+        .err()
 }
 
 impl Kept<'_> {

@@ -9,7 +9,7 @@ wider : (S : List ℤ) (a b : ℕ) → a ≤ b → AllByRecursion (λ z. nat_abs
 wider S a b l h = All-weaker (λ z. nat_abs z ≤ a) (λ z. nat_abs z ≤ b) (λ z q. omega arith) S h
 
 -- one right side more, where the text has m bytes left of n
-right_more : (a b : ℤ) (m n : ℕ) → nat_abs a ≤ (65536 - n) * 2 ^ 45 → nat_abs b ≤ 2 ^ 45 → m < n → n ≤ 65536 → nat_abs (to_z w64 (of_z w64 (a +ℤ to_z w64 (of_z w64 b)))) ≤ (65536 - m) * 2 ^ 45
+right_more : (a b : ℤ) (m n : ℕ) → nat_abs a ≤ (65536 - n) * 2 ^ 44 → nat_abs b ≤ 2 ^ 44 → m < n → n ≤ 65536 → nat_abs (to_z w64 (of_z w64 (a +ℤ to_z w64 (of_z w64 b)))) ≤ (65536 - m) * 2 ^ 44
 right_more a b m n ha hb l h = grind (arith, common_steps, abs_plus)
 
 pub loop-line-preserved : goal.loop-line-preserved

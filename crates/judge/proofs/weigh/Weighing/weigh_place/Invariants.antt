@@ -10,7 +10,7 @@ invariant-loop-line g l = record {
   short : length l.rest.text.now ≤ 65536;
   later : l.rest.first + length l.rest.text.now ≤ l.fn.body.lines.first + length l.fn.body.lines.text.now;
   sums : AllByRecursion (λ z. nat_abs z ≤ (65536 - length l.rest.text.now) * (34 * 2 ^ 40)) l.self.sums.now;
-  right : nat_abs l.right ≤ (65536 - length l.rest.text.now) * 2 ^ 45;
+  right : nat_abs l.right ≤ (65536 - length l.rest.text.now) * 2 ^ 44;
 }
 
 abbrev pub decreases-loop-line : goal.decreases-loop-line
