@@ -1,4 +1,4 @@
-// What a claim is about, as it was found in a chain.
+// What a claim is about.
 ghost use Rattle.std.specs.Prelude.{◌≡◌, true, length, is_some, IfSome};
 ghost use Rattle.chain.specs.Views.{relays_of};
 ghost use Rattle.book.specs.Places.{is_place, is_place_of};

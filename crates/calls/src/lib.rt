@@ -51,7 +51,7 @@ mod tests {
     fn refusal_of<T: Drop>(outcome: Result<T, BookFault>) -> Refusal {
         match outcome {
             Ok(_) => told(0, 0, 0),
-            Err(fault) => Refusal::from(fault),
+            Err(fault) => fault.refusal(),
         }
     }
 

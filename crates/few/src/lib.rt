@@ -1,7 +1,7 @@
 // A few values in a table of fixed size, for what may take no memory of its own.
 #![tactic(auto)]
 
-ghost use Rattle.std.specs.Prelude.{◌≡◌, ◌+◌, ◌≤◌, ◌<◌, ◌↔◌, [], ◌∷◌, ◌++◌, length, slice_set, IsOk, OnOk, OnErr};
+ghost use Rattle.std.specs.Prelude.{◌≡◌, ◌+◌, ◌≤◌, ◌<◌, ◌↔◌, [], ◌∷◌, ◌++◌, length, slice_set, ⊤, IsOk, OnOk, OnErr};
 
 use std::alloc::AllocError;
 
@@ -21,6 +21,10 @@ pub struct Few<T, const N: usize> {
 
 // By hand, since a derived `Clone` of a generic struct with a ghost field is refused.
 impl<T: Copy, const N: usize> Clone for Few<T, N> {
+    ghost is_clone = { λ x y. y ≡ x };
+
+    ghost is_infallible = { λ _. ⊤ };
+
     fn clone(&self) -> Result<Few<T, N>, AllocError> {
         Ok(*self)
     }
