@@ -14,8 +14,9 @@ mod tests {
     use chain::line::ServiceLine;
     use chain::read::read_draft;
     use chain::stream::{Relay, Stream};
+    use few::Few;
     use sheet::row::Row;
-    use std::alloc::Global;
+    use std::alloc::{AllocError, Global};
     use std::test::Fail;
     use text::fault::Refusal;
     use text::page::Page;
@@ -343,6 +344,20 @@ mod tests {
             curve: ServiceCurve::single(ServiceLine { rate: 1, hold: 0 }),
         };
         assert!(rt; service_lines(relay) == 1 && service_lines(relay) == 1);
+        Ok(())
+    }
+
+    // Asks no more of the values than that they can be cloned.
+    fn clone_of<T: Clone, const N: usize>(few: &Few<T, N>) -> Result<Few<T, N>, AllocError> {
+        few.clone()
+    }
+
+    #[test]
+    fn tables_are_cloned(rt: HostRuntime) -> Result<(), Fail> {
+        let mut few: Few<u8, 4> = Few::one(7);
+        few.push(9);
+        assert!(rt; clone_of(&few)?.as_slice() == b"\x07\x09".as_slice());
+        assert!(rt; few.copied()?.as_slice() == b"\x07\x09".as_slice());
         Ok(())
     }
 }

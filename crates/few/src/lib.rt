@@ -1,7 +1,7 @@
 // A few values in a table of fixed size, for what may take no memory of its own.
 #![tactic(auto)]
 
-ghost use Rattle.std.specs.Prelude.{◌≡◌, ◌+◌, ◌≤◌, ◌<◌, ◌↔◌, [], ◌∷◌, ◌++◌, length, slice_set, ⊤, IsOk, OnOk, OnErr};
+ghost use Rattle.std.specs.Prelude.{◌≡◌, ℕ, ◌+◌, ◌≤◌, ◌<◌, ◌↔◌, [], ◌∷◌, ◌++◌, length, slice_index_or, slice_set, Ok, IsOk, OnOk, OnErr};
 
 use std::alloc::AllocError;
 
@@ -19,14 +19,20 @@ pub struct Few<T, const N: usize> {
     ghost few: { len ≤ N },
 }
 
-// By hand, since a derived `Clone` of a generic struct with a ghost field is refused.
-impl<T: Copy, const N: usize> Clone for Few<T, N> {
-    ghost is_clone = { λ x y. y ≡ x };
+// By hand, since a derived `Clone` of a generic struct with a ghost field is refused. Each place is cloned, as by a derive.
+impl<T: Clone, const N: usize> Clone for Few<T, N> {
+    ghost use Rattle.std.specs.Array.{AllZipBelow};
+    ghost use Rattle.std.specs.Array.Iter.{IntoIterFitsInMemory};
 
-    ghost is_infallible = { λ _. ⊤ };
+    ghost is_clone = { λ x y. (y.len ≡ x.len) × AllZipBelow T.is_clone x.places y.places N × (((a b : T) → T.is_clone a b → b ≡ a) → y ≡ x) };
+
+    ghost is_infallible = { λ x. IntoIterFitsInMemory T.row N.row × ((i : ℕ) (d : T) → i < N → T.is_infallible (slice_index_or x.places i d)) };
 
     fn clone(&self) -> Result<Few<T, N>, AllocError> {
-        Ok(*self)
+        Ok(Few {
+            places: self.places.clone()?,
+            len: self.len,
+        })
     }
 }
 
@@ -51,6 +57,13 @@ impl<T: Copy, const N: usize> Few<T, N> {
         let mut few = Few::none(value);
         few.push(value);
         few
+    }
+
+    // An equal table, whatever `clone` of the values says of them. It never fails: the answer has the form of `clone`.
+    pub fn copied(&self) -> Result<Few<T, N>, AllocError>
+        ensures { result ≡ Ok self.now }
+    {
+        Ok(*self)
     }
 
     pub fn len(&self) -> usize
